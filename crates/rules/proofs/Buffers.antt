@@ -1,0 +1,61 @@
+-- Records written over a buffer.
+use mathlib.Core.Path.{_≡_, refl, sym, ap, subst, _∙_}
+use mathlib.Core.List.{List, [], _∷_, _++_}
+use mathlib.Core.Bool.{Bool, true, false, cond, _&&_, _||_}
+use Prim.Native.Nat.{ℕ, zero, suc, _+_, _-_, _<_, _≤_, max}
+use native.Mathlib.Omega.{arith}
+use native.Mathlib.Nat.{zero-add, add-zero}
+use native.Mathlib.Numerals.{add-one}
+use lib.Dec.{eqb, leb}
+use lib.ListN.{length, take, drop, set, getD, replicate, length-drop, length-append, length-take}
+use Rattle.std.specs.Options.{isSome}
+use Rattle.std.proofs.shelf.Lists.{take-at, drop-at, set-at, take-more, length-take-le, append-assoc, drop-drop, append-nil, take-append-drop, take-append-le, take-take, take-rest, drop-replicate, at-drop-more, at-drop-all}
+use Rattle.std.proofs.shelf.Tests.{cond-true, cond-both, cases-bool, both-ways, and-parts, and-from, leb-true, le-leb}
+use Rattle.std.proofs.shelf.Ways.{tells}
+use Rattle.std.specs.declared.option.Option.{Option}
+use Rattle.std.specs.declared.option.Option.the-variants.{Some, None}
+use Rattle.rules.specs.declared.records.LevelRecord.{LevelRecord}
+use Rattle.rules.specs.declared.records.ParamRecord.{ParamRecord}
+use Rattle.rules.specs.Paths.{longestPath, rooted, lawful}
+use Rattle.rules.specs.Entries.{Entry, isOptional, isBare, hasValue, meansOptional, meansValue, meansCount, withEntry}
+use Rattle.rules.specs.Taking.{Taken, nothing, orNothing, taking, testing}
+use Rattle.rules.specs.Pieces.{Span}
+use Rattle.rules.specs.Keeping.{optionals, asKept, stillKept, keepOrDrop, Numbered, keptFrom}
+use Rattle.rules.specs.Trees.{Route, Forest, none, leaf, nest, beside, KeptRoute, KeptList, keeping, under, eachKeeping, keptOver, childless, kept, Bounds, noBounds, levelOver, larger}
+use Rattle.rules.specs.Answers.{Answer, noRecords, anyBare, partLength}
+use Rattle.rules.specs.Records.{overwritten}
+use Rattle.rules.specs.Steps.{andThen, orElse, isEnding, meaningTakes, meaningKept, keptEntries, hasBare, addTaken, listTakes, valueRecord, addRead, listReads, countRead, readInto, addLevel, keptReads, firstRead, levelsAfter, paramsAfter, inUse, Matched, roomAfter, reaches}
+
+-- a record in front of what is written
+pub overwritten-none : {A : Type 0} (ys : List A) (at : ℕ) → overwritten ys at [] ≡ ys
+overwritten-none ys at = rw add-zero (take-append-drop at ys)
+
+pub overwritten-more : {A : Type 0} (ys : List A) (at : ℕ) (x : A) (xs : List A) → at + 1 + length xs ≤ length ys → set (overwritten ys (at + 1) xs) at x ≡ overwritten ys at (x ∷ xs)
+overwritten-more ys at x xs room =
+    let l : at < length ys = omega arith in
+    let short : at ≤ length ys = omega arith in
+    let n : at + 1 + length xs ≡ at + length (x ∷ xs) = omega arith in
+    let rest = xs ++ drop (at + 1 + length xs) ys in
+    ap (λ f. set (f ++ rest) at x) (take-more ys at x l)
+    ∙ ap (λ f. set f at x) (append-assoc (take at ys) (getD ys at x ∷ []) rest)
+    ∙ set-at (take at ys) (getD ys at x) rest x at (length-take-le at ys short)
+    ∙ ap (λ k. take at ys ++ (x ∷ (xs ++ drop k ys))) n
+
+-- a write that keeps the length was within the list
+pub overwritten-room : {A : Type 0} (ys : List A) (at : ℕ) (xs : List A) → at ≤ length ys → length (overwritten ys at xs) ≡ length ys → at + length xs ≤ length ys
+overwritten-room ys at xs l e =
+    omega (arith, e, length-append (take at ys) (xs ++ drop (at + length xs) ys), length-append xs (drop (at + length xs) ys), length-drop (at + length xs) ys, length-take at ys)
+
+pub overwritten-both : {A : Type 0} (ys : List A) (at : ℕ) (xs zs : List A) → at + length xs + length zs ≤ length ys → overwritten (overwritten ys (at + length xs) zs) at xs ≡ overwritten ys at (xs ++ zs)
+overwritten-both ys at xs zs room =
+    let n = at + length xs in
+    let tail = zs ++ drop (n + length zs) ys in
+    let ln : length (take n ys) ≡ n = length-take-le n ys (omega arith) in
+    let a : take at (take n ys ++ tail) ≡ take at ys = take-append-le at (take n ys) tail (omega arith) ∙ take-take at n ys (omega arith) in
+    let b : drop n (take n ys ++ tail) ≡ tail = drop-at (take n ys) tail n ln in
+    let c : n + length zs ≡ at + length (xs ++ zs) = omega (arith, length-append xs zs) in
+    rw (a, b, c, append-assoc)
+
+-- records written over zero ones from the start
+pub overwritten-zeros : {A : Type 0} (n : ℕ) (z : A) (xs : List A) → overwritten (replicate n z) 0 xs ≡ xs ++ replicate (n - length xs) z
+overwritten-zeros n z xs = ap (λ r. xs ++ r) (ap (λ k. drop k (replicate n z)) (zero-add (length xs)) ∙ drop-replicate (length xs) n z)

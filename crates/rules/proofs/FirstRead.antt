@@ -1,0 +1,67 @@
+-- The first kept list that reads a path, by how the kept lists are put together.
+use mathlib.Core.Path.{_≡_, refl, sym, ap, subst, _∙_}
+use mathlib.Core.List.{List, [], _∷_, _++_}
+use mathlib.Core.Bool.{Bool, true, false, cond, _&&_, _||_}
+use Prim.Native.Nat.{ℕ, zero, suc, _+_, _-_, _<_, _≤_, max}
+use native.Mathlib.Omega.{arith}
+use native.Mathlib.Nat.{zero-add, add-zero}
+use native.Mathlib.Numerals.{add-one}
+use lib.Dec.{eqb, leb}
+use lib.ListN.{length, take, drop, set, getD, replicate, length-drop, length-append, length-take}
+use Rattle.std.specs.Options.{isSome}
+use Rattle.std.proofs.shelf.Lists.{take-at, drop-at, set-at, take-more, length-take-le, append-assoc, drop-drop, append-nil, take-append-drop, take-append-le, take-take, take-rest, drop-replicate, at-drop-more, at-drop-all}
+use Rattle.std.proofs.shelf.Tests.{cond-true, cond-both, cases-bool, both-ways, and-parts, and-from, leb-true, le-leb}
+use Rattle.std.proofs.shelf.Ways.{tells}
+use Rattle.std.specs.declared.option.Option.{Option}
+use Rattle.std.specs.declared.option.Option.the-variants.{Some, None}
+use Rattle.rules.specs.declared.records.LevelRecord.{LevelRecord}
+use Rattle.rules.specs.declared.records.ParamRecord.{ParamRecord}
+use Rattle.rules.specs.Paths.{longestPath, rooted, lawful}
+use Rattle.rules.specs.Entries.{Entry, isOptional, isBare, hasValue, meansOptional, meansValue, meansCount, withEntry}
+use Rattle.rules.specs.Taking.{Taken, nothing, orNothing, taking, testing}
+use Rattle.rules.specs.Pieces.{Span}
+use Rattle.rules.specs.Keeping.{optionals, asKept, stillKept, keepOrDrop, Numbered, keptFrom}
+use Rattle.rules.specs.Trees.{Route, Forest, none, leaf, nest, beside, KeptRoute, KeptList, keeping, under, eachKeeping, keptOver, childless, kept, Bounds, noBounds, levelOver, larger}
+use Rattle.rules.specs.Answers.{Answer, noRecords, anyBare, partLength}
+use Rattle.rules.specs.Records.{overwritten}
+use Rattle.rules.specs.Steps.{andThen, orElse, isEnding, meaningTakes, meaningKept, keptEntries, hasBare, addTaken, listTakes, valueRecord, addRead, listReads, countRead, readInto, addLevel, keptReads, firstRead, levelsAfter, paramsAfter, inUse, Matched, roomAfter, reaches}
+
+or-assoc : {A : Type 0} (a b c : Option A) → orElse (orElse a b) c ≡ orElse a (orElse b c)
+or-assoc None b c = refl
+or-assoc (Some a) b c = refl
+
+pub first-append : (ls ms : List KeptList) (lv at : ℕ) (p : List ℕ) → firstRead (ls ++ ms) lv at p ≡ orElse (firstRead ls lv at p) (firstRead ms lv at p)
+first-append [] ms lv at p = refl
+first-append (l ∷ ls) ms lv at p = ap (orElse (keptReads l lv at p)) (first-append ls ms lv at p) ∙ sym (or-assoc (keptReads l lv at p) (firstRead ls lv at p) (firstRead ms lv at p))
+
+next-or : (k : KeptRoute) (at : ℕ) (u : ℕ × List ParamRecord) (a b : Option Answer) → orElse (addLevel k at u a) (addLevel k at u b) ≡ addLevel k at u (orElse a b)
+next-or k at u None b = refl
+next-or k at u (Some a) b = refl
+
+-- what a route over kept lists answers
+abbrev pub after : KeptRoute → List KeptList → ℕ → ℕ → List ℕ → ℕ × List ParamRecord → Option Answer
+after k ls lv at p u = addLevel k at u (firstRead ls (lv + 1) (at + u .0) (drop (u .0) p))
+
+pub first-under : (k : KeptRoute) (ls : List KeptList) (lv at : ℕ) (p : List ℕ) → firstRead (under k ls) lv at p ≡ andThen (listReads (k .entries) lv at p) (after k ls lv at p)
+first-under k [] lv at p = go (listReads (k .entries) lv at p)
+  where
+    go : (o : Option (ℕ × List ParamRecord)) → None ≡ andThen o (after k [] lv at p)
+    go None = refl
+    go (Some u) = refl
+first-under k (l ∷ ls) lv at p = ap (orElse (keptReads (k ∷ l) lv at p)) (first-under k ls lv at p) ∙ go (listReads (k .entries) lv at p)
+  where
+    go : (o : Option (ℕ × List ParamRecord)) → orElse (andThen o (λ u. addLevel k at u (keptReads l (lv + 1) (at + u .0) (drop (u .0) p)))) (andThen o (after k ls lv at p)) ≡ andThen o (after k (l ∷ ls) lv at p)
+    go None = refl
+    go (Some u) = next-or k at u (keptReads l (lv + 1) (at + u .0) (drop (u .0) p)) (firstRead ls (lv + 1) (at + u .0) (drop (u .0) p))
+
+pub kept-beside : (f g : Forest) → kept (beside f g) ≡ kept f ++ kept g
+kept-beside none g = refl
+kept-beside (leaf r f) g =
+    let own = eachKeeping r (optionals (r .entries)) childless in
+    ap (λ l. own ++ l) (kept-beside f g) ∙ sym (append-assoc own (kept f) (kept g))
+kept-beside (nest r k f) g =
+    let own = eachKeeping r (optionals (r .entries)) (kept k) in
+    ap (λ l. own ++ l) (kept-beside f g) ∙ sym (append-assoc own (kept f) (kept g))
+
+pub first-beside : (f g : Forest) (lv at : ℕ) (p : List ℕ) → firstRead (kept (beside f g)) lv at p ≡ orElse (firstRead (kept f) lv at p) (firstRead (kept g) lv at p)
+first-beside f g lv at p = ap (λ ls. firstRead ls lv at p) (kept-beside f g) ∙ first-append (kept f) (kept g) lv at p

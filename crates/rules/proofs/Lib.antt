@@ -1,0 +1,16 @@
+pub mod Words
+pub mod Pieces
+pub mod KeptEntry
+pub mod Spelled
+pub mod Answered
+pub mod Admitted
+pub mod Sound
+pub mod Takes
+pub mod Buffers
+pub mod ReadMore
+pub mod FirstRead
+pub mod MatchMore
+pub mod RecordOf
+pub mod Lawfully
+pub mod Bounded
+pub mod Keepings

@@ -1,0 +1,13 @@
+pub mod Paths
+pub mod Entries
+pub mod Taking
+pub mod Pieces
+pub mod Spelling
+pub mod Keeping
+pub mod Trees
+pub mod Answers
+pub mod Admission
+pub mod Records
+pub mod Refusals
+pub mod Places
+pub mod Steps

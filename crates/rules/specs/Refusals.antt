@@ -1,0 +1,37 @@
+-- REFUSALS: what each case of a refusal is told as, and what a call tells.
+use mathlib.Core.List.{List, [], _∷_}
+use Prim.Native.Nat.{ℕ}
+use Rattle.std.specs.declared.result.Result.{Result}
+use Rattle.std.specs.declared.result.Result.the-variants.{Ok, Err}
+use Rattle.rules.specs.declared.refusal.Cause.{Cause}
+use Rattle.rules.specs.declared.refusal.EntryFault.{EntryFault}
+use Rattle.rules.specs.declared.refusal.Refusal.{Refusal}
+use Rattle.rules.specs.declared.refusal.Refusal.the-variants.{LongPath, Unrooted, ShortOut, NoRoute, BadId, BadEntry}
+
+-- what a refusal carries beside its number: nothing, or an entry's number and its cause
+pub data Carried : Type 0 where
+  bare : Carried
+  entry : ℕ → Cause → Carried
+
+-- Each refusal's number, and what it carries.
+abbrev pub numbered : Refusal → ℕ × Carried
+numbered LongPath = (1, bare)
+numbered Unrooted = (2, bare)
+numbered ShortOut = (3, bare)
+numbered NoRoute = (4, bare)
+numbered BadId = (5, bare)
+numbered (BadEntry f) = (9, entry (f .number) (f .cause))
+
+-- What a call tells: its answer, or a refusal by its number with what it carries.
+pub data Told (A : Type 0) : Type 0 where
+  answered : A → Told A
+  refused : ℕ × Carried → Told A
+
+abbrev pub told : {A : Type 0} → Result A Refusal → Told A
+told (Ok a) = answered a
+told (Err e) = refused (numbered e)
+
+-- an answer by what is read off it
+abbrev pub readOff : {A B E : Type 0} → (A → B) → Result A E → Result B E
+readOff f (Ok a) = Ok (f a)
+readOff f (Err e) = Err e

@@ -1,0 +1,7 @@
+//! What the firm's links mean: entries, taking, spelling, keeping, answers and refusals. The definitions stand in specs/; here
+//! are the plain values that calls give out, and the theorems about the definitions.
+
+pub mod laws;
+pub mod records;
+pub mod refusal;
+pub mod segment;

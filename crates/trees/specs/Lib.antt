@@ -1,0 +1,3 @@
+pub mod Routed
+pub mod Making
+pub mod Paths

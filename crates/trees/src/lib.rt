@@ -1,0 +1,6 @@
+//! Trees of routes, and the call that finds a link's route in one.
+
+pub mod below;
+pub mod nested_route;
+pub mod route;
+pub mod tree;

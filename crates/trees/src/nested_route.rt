@@ -1,0 +1,128 @@
+ghost use mathlib.Core.Path.{_≡_};
+ghost use mathlib.Core.Bool.{true};
+ghost use Prim.Native.Nat.{_+_, _^_, _<_, _≤_};
+ghost use lib.ListN.{length};
+ghost use denote.Ref.{now};
+ghost use Rattle.rules.specs.Paths.{lawful};
+ghost use Rattle.rules.specs.Refusals.{told, readOff};
+ghost use Rattle.rules.specs.Trees.{routeOf, keeping, under, levelOver};
+ghost use Rattle.trees.specs.Making.{routeMade};
+ghost use Rattle.rules.specs.Answers.{partLength};
+ghost use Rattle.rules.specs.Steps.{hasBare, firstRead, Matched};
+use crate::below::Below;
+use crate::below::Childless;
+use crate::tree::MatchNestedRoutes;
+use lists::kind_list::KindList;
+use rules::records::LevelRecord;
+use rules::records::ParamRecord;
+use rules::records::RouteId;
+use rules::refusal::Cause;
+use rules::refusal::EntryFault;
+use rules::refusal::Refusal;
+use segments::check::ROUTE_LIMIT;
+
+// One route: its id, its list of kinds, and what stands below it.
+#[derive(Drop)]
+pub struct NestedRoute<L, C> {
+    id: RouteId,
+    list: L,
+    children: C,
+}
+
+impl<L: KindList + Drop> NestedRoute<L, Childless> {
+    // A childless route. Refusal 5 where the id is 0, and 9 where the list has more than 6 entries.
+    pub fn new(id: RouteId, list: L) -> Result<NestedRoute<L, Childless>, Refusal>
+        ensures made { λ r. ⌜ told (readOff (λ s. routeOf (s .id) (L·KindList .entries (s .list))) r) ≡ routeMade id (L·KindList .entries list) ⌝ }
+    {
+        if id == 0 {
+            return Err(Refusal::BadId);
+        }
+        if list.room_after(ROUTE_LIMIT).is_none() {
+            return Err(Refusal::BadEntry(EntryFault {
+                number: ROUTE_LIMIT,
+                cause: Cause::Count,
+            }));
+        }
+        Ok(NestedRoute {
+            id,
+            list,
+            children: Childless,
+        })
+    }
+}
+
+// How long a route's part is: what its list takes or, where that is nothing and it has a bare slash, the next byte.
+fn part_len<L: KindList>(list: &L, taken: usize) -> usize
+    ensures { λ r. ⌜ r ≡ partLength (hasBare (L·KindList .entries (now (list .entry)))) taken ⌝ }
+{
+    if taken == 0 && list.has_bare() { 1 } else { taken }
+}
+
+impl<L: KindList, C: Below> NestedRoute<L, C> {
+    // Matches with `keep` of the optional entries kept: takes the list's part, hands what is left on, and writes the route's own
+    // records only once all below it has answered.
+    fn match_keeping(
+        &self,
+        keep: usize,
+        path: &[u8],
+        at: usize,
+        levels: &mut [LevelRecord],
+        params: &mut [ParamRecord],
+        l: usize,
+        p: usize,
+    ) -> Option<(usize, usize)>
+        requires rooted { ⌜ lawful (now path) ≡ true ⌝ }
+        requires placed { ⌜ at + length (now path) < 2 ^ 64 ⌝ }
+        requires deep { ⌜ l + levelOver (length (L·KindList .entries (now self .list))) (C·Below .bounds (now self .children)) .levels ≤ length (now levels) ⌝ }
+        requires wide { ⌜ p + levelOver (length (L·KindList .entries (now self .list))) (C·Below .bounds (now self .children)) .entries ≤ length (now params) ⌝ }
+        ensures { λ r. ⌜ Matched (firstRead (under (keeping (routeOf (now (self .entry) .id) (L·KindList .entries (now (self .entry) .list))) keep) (C·Below .lists (now (self .entry) .children))) l at (now (path .entry))) l p r (now (levels .entry)) (now (levels .exit)) (now (params .entry)) (now (params .exit)) ⌝ }
+    {
+        let (taken, values) = self.list.take(keep, path)?;
+        let used = self.children.match_below(&path[taken..], at + taken, levels, params, l + 1, p + values)?;
+        let _ = self.list.read(keep, path, 0, l, at, params, p);
+        levels[l] = LevelRecord {
+            id: self.id,
+            start: at,
+            len: part_len(&self.list, taken),
+        };
+        Some(used)
+    }
+}
+
+pub impl<L: KindList, C: Below> MatchNestedRoutes for NestedRoute<L, C> as NestedRoutes {
+    ghost routes = { λ s. C·Below .over (s .children) (routeOf (s .id) (L·KindList .entries (s .list))) };
+
+    ghost bounds = { λ s. levelOver (length (L·KindList .entries (s .list))) (C·Below .bounds (s .children)) };
+
+    ghost enough = { λ s. C·Below .enough (s .children) (routeOf (s .id) (L·KindList .entries (s .list))) };
+
+    ghost abides = { λ s. C·Below .abides (s .children) (routeOf (s .id) (L·KindList .entries (s .list))) (L·KindList .abides (s .list)) };
+
+    fn fits(&self, levels: usize, params: usize) -> bool {
+        match self.list.room_after(params) {
+            Some(left) => levels > 0 && self.children.fits_below(levels - 1, left),
+            None => false,
+        }
+    }
+
+    fn match_at(
+        &self,
+        path: &[u8],
+        at: usize,
+        levels: &mut [LevelRecord],
+        params: &mut [ParamRecord],
+        l: usize,
+        p: usize,
+    ) -> Option<(usize, usize)> {
+        let mut keep = self.list.optional_count();
+        loop {
+            if let Some(used) = self.match_keeping(keep, path, at, levels, params, l, p) {
+                return Some(used);
+            }
+            if keep == 0 {
+                return None;
+            }
+            keep -= 1;
+        }
+    }
+}
