@@ -20,12 +20,12 @@ pub struct Chain<K, R> {
     pub tail: R,
 }
 
-// The list of some kinds, in order: `segments![a, b]` is a chain of `a`, `b` and the end.
+// The list of some kinds, in order: `kinds![a, b]` is a chain of `a`, `b` and the end.
 #[macro_export]
-macro_rules! segments {
+macro_rules! kinds {
     () => { $crate::chain::End };
     ($head:expr $(, $tail:expr)* $(,)?) => {
-        $crate::chain::Chain { head: $head, tail: $crate::segments!($($tail),*) }
+        $crate::chain::Chain { head: $head, tail: $crate::kinds!($($tail),*) }
     };
 }
 
@@ -50,7 +50,16 @@ pub impl KindList for End as EndList {
         Some((0, 0))
     }
 
-    fn read(&self, _keep: usize, _path: &[u8], _number: usize, _level: usize, _at: usize, _params: &mut [ParamRecord], _p: usize) -> bool {
+    fn read(
+        &self,
+        _keep: usize,
+        _path: &[u8],
+        _number: usize,
+        _level: usize,
+        _at: usize,
+        _params: &mut [ParamRecord],
+        _p: usize,
+    ) -> bool {
         true
     }
 }
@@ -88,7 +97,16 @@ pub impl<K: PossibleRouteMatch, R: KindList> KindList for Chain<K, R> as ChainLi
         Some((taken + more, values + own))
     }
 
-    fn read(&self, keep: usize, path: &[u8], number: usize, level: usize, at: usize, params: &mut [ParamRecord], p: usize) -> bool {
+    fn read(
+        &self,
+        keep: usize,
+        path: &[u8],
+        number: usize,
+        level: usize,
+        at: usize,
+        params: &mut [ParamRecord],
+        p: usize,
+    ) -> bool {
         let next = number + self.head.entry_count();
         let Some(left) = still_kept(self.head.optional(), keep) else {
             return self.tail.read(0, path, next, level, at, params, p);
@@ -97,7 +115,15 @@ pub impl<K: PossibleRouteMatch, R: KindList> KindList for Chain<K, R> as ChainLi
             return false;
         };
         let own = value_count(&self.head);
-        if !self.tail.read(left, &path[taken..], next, level, at + taken, params, p + own) {
+        if !self.tail.read(
+            left,
+            &path[taken..],
+            next,
+            level,
+            at + taken,
+            params,
+            p + own,
+        ) {
             return false;
         }
         if own == 0 {

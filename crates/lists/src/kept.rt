@@ -20,7 +20,10 @@ pub(crate) fn still_kept(optional: bool, keep: usize) -> Option<usize>
 }
 
 // What a kind reads where it is kept: an OptionalParam as a Param.
-pub(crate) fn test_kept<K: PossibleRouteMatch>(kind: &K, path: &[u8]) -> Option<(usize, usize, usize)>
+pub(crate) fn test_kept<K: PossibleRouteMatch>(
+    kind: &K,
+    path: &[u8],
+) -> Option<(usize, usize, usize)>
     ensures { λ r. ⌜ r ≡ testing (meaningKept (K·PossibleRouteMatch .meaning (now (kind .entry)))) (now (path .entry)) ⌝ }
 {
     let (taken, start, len) = kind.test(path)?;

@@ -39,7 +39,16 @@ pub trait KindList {
 
     // Writes the records of the values from `params[p]` on, and answers true; where the list refuses the path, it changes
     // nothing and answers false. The entries are numbered from `number`, and `path` starts at `at`.
-    fn read(&self, keep: usize, path: &[u8], number: usize, level: usize, at: usize, params: &mut [ParamRecord], p: usize) -> bool
+    fn read(
+        &self,
+        keep: usize,
+        path: &[u8],
+        number: usize,
+        level: usize,
+        at: usize,
+        params: &mut [ParamRecord],
+        p: usize,
+    ) -> bool
         requires rooted { ⌜ lawful (now path) ≡ true ⌝ }
         requires room { ⌜ p + length (entries (now self)) ≤ length (now params) ⌝ }
         requires numbered { ⌜ number + length (entries (now self)) < 2 ^ 64 ⌝ }

@@ -40,6 +40,7 @@ list-through (k ∷ ks) fs lv at p u h rs = go (taking (k .entry) p) refl h (λ 
     went t (Some v) h ih =
         let e : _≡_ {A = ℕ × List ParamRecord} (t .0 + v .0, valueRecord (hasValue (k .entry)) (k .number) lv at t ++ v .1) u = cc in
         ih v refl (subst (ReadThrough fs) (ap (λ w. drop (w .0) p) (sym e) ∙ sym (drop-drop (v .0) (t .0) p)) rs)
+
     go : (o : Option (Taken)) → taking (k .entry) p ≡ o → andThen o (λ t. addRead t (valueRecord (hasValue (k .entry)) (k .number) lv at t) (listReads ks lv (at + t .0) (drop (t .0) p))) ≡ Some u → ((at : ℕ) (q : List ℕ) (v : ℕ × List ParamRecord) → listReads ks lv at q ≡ Some v → ReadThrough fs (drop (v .0) q) → ReadThrough (plainly ks ++ fs) q) → ReadThrough (k .entry ∷ (plainly ks ++ fs)) p
     go None e h ih = let z : _≡_ {A = ℕ} 0 1 = cc in absurd (omega arith)
     go (Some t) e h ih = (t, e, went t (listReads ks lv (at + t .0) (drop (t .0) p)) h (λ v. ih (at + t .0) (drop (t .0) p) v))
@@ -51,6 +52,7 @@ kept-through (k ∷ ks) lv at p a h = go (listReads (k .entries) lv at p) refl h
     went : (u : ℕ × List ParamRecord) (o : Option Answer) → addLevel k at u o ≡ Some a → (b : Answer) × (o ≡ Some b)
     went u None h = let z : _≡_ {A = ℕ} 0 1 = cc in absurd (omega arith)
     went u (Some b) h = (b, refl)
+
     go : (o : Option (ℕ × List ParamRecord)) → listReads (k .entries) lv at p ≡ o → andThen o (λ u. addLevel k at u (keptReads ks (lv + 1) (at + u .0) (drop (u .0) p))) ≡ Some a → ((at : ℕ) (q : List ℕ) (b : Answer) → keptReads ks (lv + 1) at q ≡ Some b → ReadThrough (entriesOf ks) q) → ReadThrough (plainly (k .entries) ++ entriesOf ks) p
     go None e h ih = let z : _≡_ {A = ℕ} 0 1 = cc in absurd (omega arith)
     go (Some u) e h ih =
@@ -80,10 +82,10 @@ front (k ∷ ks) fs lv at p cs s = go s (λ at q ds. front ks fs lv at q ds)
         let long : t .0 + length (joined own) ≡ length (b ++ joined own) = ap (λ n. n + length (joined own)) (taken-length b v) ∙ sym (length-append b (joined own)) in
         record {
           read =
-            ap (λ o. andThen o (λ t. addRead t (valueRecord (hasValue (k .entry)) (k .number) lv at t) (listReads ks lv (at + t .0) (drop (t .0) p)))) (f .0)
-            ∙ ap (addRead t (valueRecord (hasValue (k .entry)) (k .number) lv at t)) more
-            ∙ ap (λ rs. Some (t .0 + length (joined own), rs ++ valuesAt ks lv (at + length b) own)) (value-param lv (k .number) at b v (hasValue (k .entry)) (piece-valued piece))
-            ∙ ap (λ n. Some (n, valueAt lv (k .number) at v ++ valuesAt ks lv (at + length b) own)) long;
+              ap (λ o. andThen o (λ t. addRead t (valueRecord (hasValue (k .entry)) (k .number) lv at t) (listReads ks lv (at + t .0) (drop (t .0) p)))) (f .0)
+              ∙ ap (addRead t (valueRecord (hasValue (k .entry)) (k .number) lv at t)) more
+              ∙ ap (λ rs. Some (t .0 + length (joined own), rs ++ valuesAt ks lv (at + length b) own)) (value-param lv (k .number) at b v (hasValue (k .entry)) (piece-valued piece))
+              ∙ ap (λ n. Some (n, valueAt lv (k .number) at v ++ valuesAt ks lv (at + length b) own)) long;
           rest = subst (λ x. Spells fs x (drop (length ks) ds)) (ap (drop (length (joined own))) (sym (f .1)) ∙ drop-drop (length (joined own)) (t .0) p ∙ ap (λ n. drop n p) long) (r .rest);
         }
 

@@ -135,4 +135,3 @@ module _ (A B whole : Option Answer) {l p : ℕ} {ls ls₁ : List LevelRecord} {
   neither-yet m =
       let u = unused A l p (m .result) in
       (is ∙ ap (λ o. orElse o B) u, m .levels ∙ ap (λ o. levelsAfter o l ls) u, m .params ∙ ap (λ o. paramsAfter o p ps) u)
-

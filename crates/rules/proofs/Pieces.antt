@@ -56,18 +56,18 @@ word-cut {s} {w} [] t k h = absurd (not-taken h)
 word-cut {s} {w} (b ∷ q) t k h =
     ⊎-elim
     (λ e.
-      let both = and-parts (isSlash b) (begins w q && rooted (drop (length w) q)) e in
-      let word = and-parts (begins w q) (rooted (drop (length w) q)) (both .1) in
-      let f = front-begins w q (word .0) in
-      record {
-        bytes = slash ∷ w;
-        value = None;
-        rest = f .0;
-        piece = of-word k;
-        joins = ap (λ c. c ∷ q) (eqb-true b 47 (both .0)) ∙ ap (λ r. slash ∷ r) (f .1);
-        rooted-rest = subst (λ x. rooted x ≡ true) (ap (drop (length w)) (f .1) ∙ drop-at w (f .0) (length w) refl) (word .1);
-        is = same-taken (sym h ∙ cond-true _ (Some (length w + 1, 0, 0)) None e) ∙ ap (λ n. (n, 0, 0)) (add-one (length w));
-      })
+    let both = and-parts (isSlash b) (begins w q && rooted (drop (length w) q)) e in
+    let word = and-parts (begins w q) (rooted (drop (length w) q)) (both .1) in
+    let f = front-begins w q (word .0) in
+    record {
+      bytes = slash ∷ w;
+      value = None;
+      rest = f .0;
+      piece = of-word k;
+      joins = ap (λ c. c ∷ q) (eqb-true b 47 (both .0)) ∙ ap (λ r. slash ∷ r) (f .1);
+      rooted-rest = subst (λ x. rooted x ≡ true) (ap (drop (length w)) (f .1) ∙ drop-at w (f .0) (length w) refl) (word .1);
+      is = same-taken (sym h ∙ cond-true _ (Some (length w + 1, 0, 0)) None e) ∙ ap (λ n. (n, 0, 0)) (add-one (length w));
+    })
     (λ e. absurd (not-taken (sym (cond-false _ (Some (length w + 1, 0, 0)) None e) ∙ h)))
     (cases-bool (isSlash b && (begins w q && rooted (drop (length w) q))))
 
@@ -82,6 +82,7 @@ static-cut (c ∷ text) p t r h =
     bare : (q : List ℕ) → rooted q ≡ true → takeBare q ≡ Some t → Cutting (static (slash ∷ [])) q t
     bare [] r h = absurd (not-taken h)
     bare (b ∷ q) r h = record { bytes = []; value = None; rest = b ∷ q; piece = of-bare; joins = refl; rooted-rest = r; is = sym (same-taken h) }
+
     after : (text : List ℕ) → takeSlashed text p ≡ Some t → Cutting (static (slash ∷ text)) p t
     after [] h = bare p r h
     after (d ∷ text) h = word-cut p t slashed h
@@ -98,16 +99,16 @@ behind-value : (p : List ℕ) → rooted (drop (leading plain p) p) ≡ true
 behind-value [] = refl
 behind-value (b ∷ p) =
     elim (isSlash b) as (λ v. isSlash b ≡ v → rooted (drop (cond (not v) (1 + leading plain p) 0) (b ∷ p)) ≡ true) [
-      true ↦ λ e. e
-    | false ↦ λ e. rw one-add (behind-value p)
+      | true ↦ λ e. e
+      | false ↦ λ e. rw one-add (behind-value p)
     ] refl
 
 front-free : (q : List ℕ) → slashFree (take (leading plain q) q) ≡ true
 front-free [] = refl
 front-free (b ∷ q) =
     elim (isSlash b) as (λ v. isSlash b ≡ v → slashFree (take (cond (not v) (1 + leading plain q) 0) (b ∷ q)) ≡ true) [
-      true ↦ λ e. refl
-    | false ↦ λ e. rw one-add (and-from (plain b) (slashFree (take (leading plain q) q)) (ap not e) (front-free q))
+      | true ↦ λ e. refl
+      | false ↦ λ e. rw one-add (and-from (plain b) (slashFree (take (leading plain q) q)) (ap not e) (front-free q))
     ] refl
 
 param-cut : {x : List ℕ} (p : List ℕ) (t : Taken) → takeParam p ≡ Some t → Cutting (param x) p t
@@ -122,28 +123,28 @@ param-cut {x} (b ∷ q) t h = ⊎-elim (λ e. behind e) (λ e. absurd (not-taken
         let lv : length v ≡ m = length-take-le m q (leading-le-length plain q) in
         ⊎-elim
         (λ z. record {
-            bytes = slash ∷ v;
-            value = behindSlash v;
-            rest = drop m q;
-            piece = of-param (record { long = ap valueLength lv ∙ z; free = front-free q });
-            joins = ap (λ c. c ∷ q) (eqb-true b 47 e) ∙ ap (λ r. slash ∷ r) (sym (take-append-drop m q));
-            rooted-rest = behind-value q;
-            is = same-taken (sym k ∙ cond-true (valueLength m) (Some (m + 1, 1, m)) None z) ∙ ap (λ n. (n, 1, m)) (add-one m) ∙ ap (λ n. (suc n, 1, n)) (sym lv);
-          })
+          bytes = slash ∷ v;
+          value = behindSlash v;
+          rest = drop m q;
+          piece = of-param (record { long = ap valueLength lv ∙ z; free = front-free q });
+          joins = ap (λ c. c ∷ q) (eqb-true b 47 e) ∙ ap (λ r. slash ∷ r) (sym (take-append-drop m q));
+          rooted-rest = behind-value q;
+          is = same-taken (sym k ∙ cond-true (valueLength m) (Some (m + 1, 1, m)) None z) ∙ ap (λ n. (n, 1, m)) (add-one m) ∙ ap (λ n. (suc n, 1, n)) (sym lv);
+        })
         (λ z. absurd (not-taken (sym (cond-false (valueLength m) (Some (m + 1, 1, m)) None z) ∙ k)))
         (cases-bool (valueLength m))
 
 splat-cut : {x : List ℕ} (p : List ℕ) (t : Taken) → rooted p ≡ true → takeSplat p ≡ Some t → Cutting (splat x) p t
 splat-cut {x} [] t r h = record { bytes = []; value = _; rest = []; piece = of-no-splat; joins = refl; rooted-rest = refl; is = sym (same-taken h) }
 splat-cut {x} (b ∷ q) t r h = record {
-    bytes = slash ∷ q;
-    value = behindSlash q;
-    rest = [];
-    piece = of-splat;
-    joins = ap (λ c. c ∷ q) (eqb-true b 47 r) ∙ ap (λ r. slash ∷ r) (sym (append-nil q));
-    rooted-rest = refl;
-    is = sym (same-taken h) ∙ ap (λ n. (n, 1, length q)) (add-one (length q));
-  }
+  bytes = slash ∷ q;
+  value = behindSlash q;
+  rest = [];
+  piece = of-splat;
+  joins = ap (λ c. c ∷ q) (eqb-true b 47 r) ∙ ap (λ r. slash ∷ r) (sym (append-nil q));
+  rooted-rest = refl;
+  is = sym (same-taken h) ∙ ap (λ n. (n, 1, length q)) (add-one (length q));
+}
 
 -- A piece is what its entry takes.
 pub piece-taken : {e : Entry} {b q : List ℕ} {v : Option Span} → Piece e b v q → rooted q ≡ true → taking e (b ++ q) ≡ Some (takenOf b v)

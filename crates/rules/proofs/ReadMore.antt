@@ -66,9 +66,11 @@ takes-read (e ∷ es) i n lv at p = kept (stillKept (isOptional e) n) (λ m at p
     value v t o None h = rw h
     value true t o (Some u) h = rw h (ap (λ k. Some (t .0 + u .0, k)) (add-one (length (u .1))))
     value false t o (Some u) h = rw h (ap (λ k. Some (t .0 + u .0, k)) (add-zero (length (u .1))))
+
     went : (o : Option Taken) (m : ℕ) → ((at : ℕ) (p : List ℕ) → listTakes (keptEntries m es) p ≡ countRead (listReads (keptFrom (i + 1) m es) lv at p)) → andThen o (λ t. addTaken t (hasValue (asKept e)) (listTakes (keptEntries m es) (drop (t .0) p))) ≡ countRead (andThen o (λ t. addRead t (valueRecord (hasValue (asKept e)) i lv at t) (listReads (keptFrom (i + 1) m es) lv (at + t .0) (drop (t .0) p))))
     went None m ih = refl
     went (Some t) m ih = value (hasValue (asKept e)) t _ (listReads (keptFrom (i + 1) m es) lv (at + t .0) (drop (t .0) p)) (ih (at + t .0) (drop (t .0) p))
+
     kept : (o : Option ℕ) → ((m at : ℕ) (p : List ℕ) → listTakes (keptEntries m es) p ≡ countRead (listReads (keptFrom (i + 1) m es) lv at p)) → listTakes (keepOrDrop o (keptEntries 0 es) (λ m. asKept e ∷ keptEntries m es)) p ≡ countRead (listReads (firstRead-kept i e es o) lv at p)
     kept None ih = ih 0 at p
     kept (Some m) ih = went (taking (asKept e) p) m (ih m)

@@ -102,6 +102,7 @@ takes-few (e ∷ es) p = go (taking e p) (λ q. takes-few es q)
     add t v None s = tt
     add t true (Some u) s = omega (arith, s)
     add t false (Some u) s = omega (arith, s)
+
     go : (o : Option Taken) → ((q : List ℕ) → Few es (listTakes es q)) → Few (e ∷ es) (andThen o (λ t. addTaken t (hasValue e) (listTakes es (drop (t .0) p))))
     go None ih = tt
     go (Some t) ih = add t (hasValue e) (listTakes es (drop (t .0) p)) (ih (drop (t .0) p))
@@ -117,6 +118,7 @@ takes-sound (e ∷ es) p r = go (taking e p) refl (λ q. takes-sound es q)
     add : (t : Taken) (v : Bool) (o : Option (ℕ × ℕ)) → t .0 ≤ length p → Within (drop (t .0) p) o → Within p (addTaken t v o)
     add t v None w s = tt
     add t v (Some u) w s = (omega (arith, length-drop (t .0) p, s .0), subst (λ q. rooted q ≡ true) (drop-drop (u .0) (t .0) p) (s .1))
+
     go : (o : Option Taken) → o ≡ taking e p → ((q : List ℕ) → rooted q ≡ true → Within q (listTakes es q)) → Within p (andThen o (λ t. addTaken t (hasValue e) (listTakes es (drop (t .0) p))))
     go None h ih = tt
     go (Some t) h ih = let w = taking-sound e p t r h in add t (hasValue e) (listTakes es (drop (t .0) p)) (w .within) (ih (drop (t .0) p) (w .rooted-rest))

@@ -65,6 +65,7 @@ static-word (c ∷ t) (x ∷ xs) w e h = rw h (go (isSlash c) t)
   where
     word : (d : ℕ) (u : List ℕ) → takeWord (d ∷ u) (x ∷ xs) ≡ cond (eqb (length (d ∷ u)) 0) (Some (0, 0, 0)) (takeWord (d ∷ u) (x ∷ xs))
     word d u = sym (cond-false (eqb (length (d ∷ u)) 0) (Some (0, 0, 0)) (takeWord (d ∷ u) (x ∷ xs)) (some-bytes d u))
+
     go : (b : Bool) (t : List ℕ) → cond b (takeSlashed t (x ∷ xs)) (takeWord (c ∷ t) (x ∷ xs)) ≡ cond (eqb (length (cond b t (c ∷ t))) 0) (Some (0, 0, 0)) (takeWord (cond b t (c ∷ t)) (x ∷ xs))
     go true [] = refl
     go true (d ∷ t) = word d t

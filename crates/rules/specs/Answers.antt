@@ -45,9 +45,9 @@ partLength bare n = cond (bare && eqb n 0) 1 n
 -- one route, whose pieces start at `at`, in front of what stands below it
 abbrev pub inFront : KeptRoute → ℕ → ℕ → List Cut → Answer → Answer
 inFront k level at cs below = record {
-    levels = record { id = k .id; start = at; len = partLength (anyBare (k .entries)) (length (joined cs)) } ∷ below .levels;
-    params = valuesAt (k .entries) level at cs ++ below .params;
-  }
+  levels = record { id = k .id; start = at; len = partLength (anyBare (k .entries)) (length (joined cs)) } ∷ below .levels;
+  params = valuesAt (k .entries) level at cs ++ below .params;
+}
 
 -- a kept list whose first route is at some level, and whose pieces start at `at`
 abbrev pub answerOf : KeptList → ℕ → ℕ → List Cut → Answer

@@ -1,9 +1,11 @@
 -- REFUSALS: what each case of a refusal is told as, and what a call tells.
 use mathlib.Core.List.{List, [], _∷_}
 use Prim.Native.Nat.{ℕ}
+use lib.Chars.{codes}
 use Rattle.std.specs.declared.result.Result.{Result}
 use Rattle.std.specs.declared.result.Result.the-variants.{Ok, Err}
 use Rattle.rules.specs.declared.refusal.Cause.{Cause}
+use Rattle.rules.specs.declared.refusal.Cause.the-variants.{Count, Place, Length, Slash}
 use Rattle.rules.specs.declared.refusal.EntryFault.{EntryFault}
 use Rattle.rules.specs.declared.refusal.Refusal.{Refusal}
 use Rattle.rules.specs.declared.refusal.Refusal.the-variants.{LongPath, Unrooted, ShortOut, NoRoute, BadId, BadEntry}
@@ -21,6 +23,21 @@ numbered ShortOut = (3, bare)
 numbered NoRoute = (4, bare)
 numbered BadId = (5, bare)
 numbered (BadEntry f) = (9, entry (f .number) (f .cause))
+
+-- the names that are shown
+abbrev pub nameOf : Refusal → List ℕ
+nameOf LongPath = codes "LongPath"
+nameOf Unrooted = codes "Unrooted"
+nameOf ShortOut = codes "ShortOut"
+nameOf NoRoute = codes "NoRoute"
+nameOf BadId = codes "BadId"
+nameOf (BadEntry f) = codes "BadEntry"
+
+abbrev pub causeName : Cause → List ℕ
+causeName Count = codes "count"
+causeName Place = codes "place"
+causeName Length = codes "length"
+causeName Slash = codes "slash"
 
 -- What a call tells: its answer, or a refusal by its number with what it carries.
 pub data Told (A : Type 0) : Type 0 where

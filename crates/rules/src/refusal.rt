@@ -1,3 +1,9 @@
+ghost use mathlib.Core.Path.{_≡_};
+ghost use Rattle.rules.specs.declared.refusal.Refusal.the-variants.{BadEntry};
+ghost use Rattle.rules.specs.Refusals.{numbered, nameOf, causeName};
+use std::error::Error;
+use std::fmt;
+
 // Why an entry is refused, in the order in which the causes are tested.
 #[derive(Clone, Copy, PartialEq, Eq, Debug)]
 pub enum Cause {
@@ -33,4 +39,74 @@ pub enum Refusal {
     BadId,
     // a list is too long, or an entry breaks a rule
     BadEntry(EntryFault),
+}
+
+impl Cause {
+    // Its name, as it is shown.
+    pub fn name(self) -> &'static str
+        ensures { λ r. ⌜ now r ≡ causeName self ⌝ }
+    {
+        match self {
+            Cause::Count => "count",
+            Cause::Place => "place",
+            Cause::Length => "length",
+            Cause::Slash => "slash",
+        }
+    }
+}
+
+impl Refusal {
+    // Its fixed number.
+    pub fn number(self) -> u8
+        ensures { λ r. ⌜ r ≡ numbered self .0 ⌝ }
+    {
+        match self {
+            Refusal::LongPath => 1,
+            Refusal::Unrooted => 2,
+            Refusal::ShortOut => 3,
+            Refusal::NoRoute => 4,
+            Refusal::BadId => 5,
+            Refusal::BadEntry(_) => 9,
+        }
+    }
+
+    // Its name, as it is shown.
+    pub fn name(self) -> &'static str
+        ensures { λ r. ⌜ now r ≡ nameOf self ⌝ }
+    {
+        match self {
+            Refusal::LongPath => "LongPath",
+            Refusal::Unrooted => "Unrooted",
+            Refusal::ShortOut => "ShortOut",
+            Refusal::NoRoute => "NoRoute",
+            Refusal::BadId => "BadId",
+            Refusal::BadEntry(_) => "BadEntry",
+        }
+    }
+}
+
+// The number, the name and what is carried, as in `9 BadEntry (entry 2: slash)`.
+pub impl fmt::Display for Refusal as RefusalDisplay {
+    fn fmt<W: fmt::Write>(&self, f: &mut fmt::Formatter<W>) -> fmt::Result {
+        let number = self.number();
+        let name = self.name();
+        write!(f, "{number} {name}")?;
+        if let Refusal::BadEntry(fault) = self {
+            let entry = fault.number;
+            let cause = fault.cause.name();
+            write!(f, " (entry {entry}: {cause})")?;
+        }
+        Ok(())
+    }
+}
+
+pub impl Error for Refusal as RefusalError {}
+
+// A fault in a list is refusal 9.
+pub impl From<EntryFault> for Refusal as RefusalFromFault {
+    ghost converts = { λ e r. r ≡ BadEntry e };
+
+    fn from(fault: EntryFault) -> Refusal {
+        Refusal::BadEntry(fault)
+    }
 }

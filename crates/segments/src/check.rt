@@ -11,6 +11,7 @@ use rules::segment::SegmentKind;
 
 // The most entries of a route's list, and of any other list.
 pub const ROUTE_LIMIT: usize = 6;
+
 pub const LIST_LIMIT: usize = 96;
 
 fn is_slash_free(bytes: &[u8]) -> bool
@@ -34,7 +35,11 @@ fn check_text(text: &[u8]) -> Result<(), Cause>
     let [_, rest @ ..] = text else {
         return Ok(());
     };
-    if is_slash_free(rest) { Ok(()) } else { Err(Cause::Slash) }
+    if is_slash_free(rest) {
+        Ok(())
+    } else {
+        Err(Cause::Slash)
+    }
 }
 
 // A name has 1 to 24 bytes.
@@ -48,14 +53,14 @@ fn check_name(name: &[u8]) -> Result<(), Cause>
     }
 }
 
-pub fn is_unit(kind: SegmentKind) -> bool
+pub(crate) fn is_unit(kind: SegmentKind) -> bool
     ensures { λ r. ⌜ r ≡ isUnit kind ⌝ }
 {
     matches!(kind, SegmentKind::Unit)
 }
 
 // What a kind asks of its text or name; a Unit has none.
-pub fn check_segment(kind: SegmentKind, text: &[u8]) -> Result<(), Cause>
+pub(crate) fn check_segment(kind: SegmentKind, text: &[u8]) -> Result<(), Cause>
     ensures { λ r. ⌜ errPart r ≡ kindFault kind (now (text .entry)) ⌝ }
 {
     match kind {

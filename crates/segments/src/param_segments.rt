@@ -37,20 +37,24 @@ fn value_fits(len: usize) -> bool
 }
 
 // A slash and a value.
-pub fn take_param(path: &[u8]) -> Option<(usize, usize, usize)>
+pub(crate) fn take_param(path: &[u8]) -> Option<(usize, usize, usize)>
     ensures { λ r. ⌜ r ≡ takeParam (now (path .entry)) ⌝ }
 {
     match path {
         [b'/', rest @ ..] => {
             let len = value_len(rest);
-            if value_fits(len) { Some((len + 1, 1, len)) } else { None }
+            if value_fits(len) {
+                Some((len + 1, 1, len))
+            } else {
+                None
+            }
         }
         _ => None,
     }
 }
 
 // The same, or nothing in the place of a refusal.
-pub fn take_optional(path: &[u8]) -> Option<(usize, usize, usize)>
+pub(crate) fn take_optional(path: &[u8]) -> Option<(usize, usize, usize)>
     ensures { λ r. ⌜ r ≡ orNothing (takeParam (now (path .entry))) ⌝ }
 {
     match take_param(path) {
@@ -60,7 +64,7 @@ pub fn take_optional(path: &[u8]) -> Option<(usize, usize, usize)>
 }
 
 // Everything.
-pub fn take_splat(path: &[u8]) -> Option<(usize, usize, usize)>
+pub(crate) fn take_splat(path: &[u8]) -> Option<(usize, usize, usize)>
     ensures { λ r. ⌜ r ≡ takeSplat (now (path .entry)) ⌝ }
 {
     match path {
@@ -96,7 +100,11 @@ pub impl PossibleRouteMatch for ParamSegment as ParamKind {
     }
 
     fn test(&self, path: &[u8]) -> Option<(usize, usize, usize)> {
-        if is_lawful(path) { take_param(path) } else { None }
+        if is_lawful(path) {
+            take_param(path)
+        } else {
+            None
+        }
     }
 
     fn generate_path(&self, path: &mut [PathSegment], at: usize) -> usize {
@@ -143,7 +151,11 @@ pub impl PossibleRouteMatch for OptionalParamSegment as OptionalParamKind {
     }
 
     fn test(&self, path: &[u8]) -> Option<(usize, usize, usize)> {
-        if is_lawful(path) { take_optional(path) } else { None }
+        if is_lawful(path) {
+            take_optional(path)
+        } else {
+            None
+        }
     }
 
     fn generate_path(&self, path: &mut [PathSegment], at: usize) -> usize {
@@ -190,7 +202,11 @@ pub impl PossibleRouteMatch for WildcardSegment as WildcardKind {
     }
 
     fn test(&self, path: &[u8]) -> Option<(usize, usize, usize)> {
-        if is_lawful(path) { take_splat(path) } else { None }
+        if is_lawful(path) {
+            take_splat(path)
+        } else {
+            None
+        }
     }
 
     fn generate_path(&self, path: &mut [PathSegment], at: usize) -> usize {

@@ -35,7 +35,7 @@ pub fn append_record(path: &mut [PathSegment], at: usize, segment: PathSegment) 
 }
 
 // Whether entries of a kind have a value.
-pub fn kind_has_value(kind: SegmentKind) -> bool
+pub(crate) fn kind_has_value(kind: SegmentKind) -> bool
     ensures { λ r. ⌜ r ≡ kindHasValue kind ⌝ }
 {
     match kind {
@@ -45,7 +45,7 @@ pub fn kind_has_value(kind: SegmentKind) -> bool
 }
 
 // Whether a record is that of the bare slash.
-pub fn record_is_bare(segment: PathSegment) -> bool
+pub(crate) fn record_is_bare(segment: PathSegment) -> bool
     ensures { λ r. ⌜ r ≡ recordIsBare segment ⌝ }
 {
     match segment.kind {

@@ -41,7 +41,7 @@ impl Segment {
     }
 
     // The same for an entry that is handed over alone: refusal 9, with number 0 and the cause.
-    pub fn alone(kind: SegmentKind, text: &[u8]) -> Result<Segment, Refusal>
+    pub(crate) fn alone(kind: SegmentKind, text: &[u8]) -> Result<Segment, Refusal>
         ensures made { λ r. ⌜ told (readOff (λ s. entryIn (s .given)) r) ≡ faultAlone (entryMade kind (now (text .entry))) ⌝ }
         ensures kind { λ r. ⌜ made r (λ s. kindNumber (s .given .kind) ≡ kindNumber kind) ⌝ }
     {

@@ -43,14 +43,22 @@ fn begins_with(rest: &[u8], word: &[u8]) -> bool
 
 // A slash and the text, if the path begins so and then ends or goes on with a slash. The empty static takes nothing, and so does
 // the bare slash where a byte is still to come.
-pub fn take_static(text: &[u8], path: &[u8]) -> Option<(usize, usize, usize)>
+pub(crate) fn take_static(text: &[u8], path: &[u8]) -> Option<(usize, usize, usize)>
     requires { ⌜ rooted (now path) ≡ true ⌝ }
     ensures { λ r. ⌜ r ≡ takeStatic (now (text .entry)) (now (path .entry)) ⌝ }
 {
     let word = word_of(text);
     match path {
-        [] => if text.is_empty() { Some((0, 0, 0)) } else { None },
-        [b'/'] => if word.is_empty() { Some((0, 0, 0)) } else { None },
+        [] => if text.is_empty() {
+            Some((0, 0, 0))
+        } else {
+            None
+        },
+        [b'/'] => if word.is_empty() {
+            Some((0, 0, 0))
+        } else {
+            None
+        },
         [b'/', rest @ ..] => {
             if word.is_empty() {
                 Some((0, 0, 0))
@@ -115,7 +123,11 @@ pub impl<T: AsPath> PossibleRouteMatch for StaticSegment<T> as StaticKind {
     }
 
     fn generate_path(&self, path: &mut [PathSegment], at: usize) -> usize {
-        append_record(path, at, record_of(SegmentKind::Static, self.text.as_path()))
+        append_record(
+            path,
+            at,
+            record_of(SegmentKind::Static, self.text.as_path()),
+        )
     }
 
     fn entry_count(&self) -> usize {

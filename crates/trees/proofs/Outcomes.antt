@@ -83,9 +83,9 @@ module _ (f : Forest) (b : Bounds) (p : List ℕ) (ls : List LevelRecord) (ps : 
             unrooted = λ _ k. absurd (lawful-unrooted p l k);
             short = λ _ k. absurd (both-ways (reaches b (length ls) (length ps)) k (sym fit));
             admitted = λ _ _ c h.
-              let same : Some a ≡ Some c = sym (r .1) ∙ reader-admits f p l .some c .1 h in
-              let is : a ≡ c = cc in
-              subst (λ x. Leaves (answered u) ls′ ps′ (answered (length (x .levels), length (x .params))) (padded (x .levels) zeroLevel (length ls)) (padded (x .params) zeroParam (length ps))) is leaves;
+                let same : Some a ≡ Some c = sym (r .1) ∙ reader-admits f p l .some c .1 h in
+                let is : a ≡ c = cc in
+                subst (λ x. Leaves (answered u) ls′ ps′ (answered (length (x .levels), length (x .params))) (padded (x .levels) zeroLevel (length ls)) (padded (x .params) zeroParam (length ps))) is leaves;
             declined = λ _ _ n. let z : Some a ≡ None = sym (r .1) ∙ reader-admits f p l .none .1 n in let y : _≡_ {A = ℕ} 0 1 = cc in absurd (omega arith);
             decided = decide f p;
           }

@@ -55,7 +55,11 @@ impl<L: KindList + Drop> NestedRoute<L, Childless> {
 fn part_len<L: KindList>(list: &L, taken: usize) -> usize
     ensures { λ r. ⌜ r ≡ partLength (hasBare (L·KindList .entries (now (list .entry)))) taken ⌝ }
 {
-    if taken == 0 && list.has_bare() { 1 } else { taken }
+    if taken == 0 && list.has_bare() {
+        1
+    } else {
+        taken
+    }
 }
 
 impl<L: KindList, C: Below> NestedRoute<L, C> {
@@ -78,7 +82,15 @@ impl<L: KindList, C: Below> NestedRoute<L, C> {
         ensures { λ r. ⌜ Matched (firstRead (under (keeping (routeOf (now (self .entry) .id) (L·KindList .entries (now (self .entry) .list))) keep) (C·Below .lists (now (self .entry) .children))) l at (now (path .entry))) l p r (now (levels .entry)) (now (levels .exit)) (now (params .entry)) (now (params .exit)) ⌝ }
     {
         let (taken, values) = self.list.take(keep, path)?;
-        let used = self.children.match_below(&path[taken..], at + taken, levels, params, l + 1, p + values)?;
+        let used = self.children
+            .match_below(
+                &path[taken..],
+                at + taken,
+                levels,
+                params,
+                l + 1,
+                p + values,
+            )?;
         let _ = self.list.read(keep, path, 0, l, at, params, p);
         levels[l] = LevelRecord {
             id: self.id,

@@ -16,7 +16,11 @@ fn check_path(path: &[u8]) -> Result<(), Refusal>
     if path.len() > LONGEST_PATH {
         return Err(Refusal::LongPath);
     }
-    if is_rooted(path) { Ok(()) } else { Err(Refusal::Unrooted) }
+    if is_rooted(path) {
+        Ok(())
+    } else {
+        Err(Refusal::Unrooted)
+    }
 }
 
 // Finds the first kept list of `tree` that `path` spells, writes one level record for each of its routes and one parameter record
