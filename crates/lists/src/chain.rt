@@ -1,4 +1,4 @@
-ghost use mathlib.Core.Path.{_≡_, refl};
+ghost use mathlib.Core.Path.{refl};
 ghost use mathlib.Core.List.{[]};
 ghost use Rattle.rules.specs.Entries.{withEntry};
 ghost use Rattle.rules.proofs.Lawfully.{with-lawful};

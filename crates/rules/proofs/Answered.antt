@@ -1,32 +1,28 @@
 -- What is read of a kept list is the answer that its pieces give. By the laws of pieces alone.
 use mathlib.Core.Path.{_≡_, refl, sym, ap, subst, _∙_}
 use mathlib.Core.List.{List, [], _∷_, _++_}
-use mathlib.Core.Bool.{Bool, true, false, cond, _&&_}
+use mathlib.Core.Bool.{Bool, true}
 use mathlib.Core.Logic.{⊎-elim}
-use Prim.Native.Nat.{ℕ, zero, suc, _+_}
+use Prim.Native.Nat.{ℕ, _+_}
 use native.Mathlib.Omega.{arith}
-use lib.Dec.{leb}
 use lib.ListN.{length, take, drop, length-append}
 use Rattle.std.specs.Options.{isSome}
-use Rattle.std.specs.shelf.Lists.{All}
 use Rattle.std.proofs.shelf.Lists.{drop-drop}
-use Rattle.std.proofs.shelf.Tests.{cases-bool, cond-true, cond-false, and-parts}
+use Rattle.std.proofs.shelf.Tests.{cases-bool, cond-true, cond-false}
 use Rattle.std.specs.declared.option.Option.{Option}
 use Rattle.std.specs.declared.option.Option.the-variants.{Some, None}
 use Rattle.rules.specs.declared.records.ParamRecord.{ParamRecord}
-use Rattle.rules.specs.Paths.{longestPath, rooted, lawful}
-use Rattle.rules.specs.Entries.{Entry, isOptional, hasValue}
+use Rattle.rules.specs.Paths.{rooted}
+use Rattle.rules.specs.Entries.{Entry, hasValue}
 use Rattle.rules.specs.Taking.{Taken, taking}
-use Rattle.rules.specs.Pieces.{Span, Piece}
-use Rattle.rules.specs.Spelling.{Cut, Spells, ends, goes, joined}
-use Rattle.rules.specs.Keeping.{optionals, asKept, stillKept, keepOrDrop, Numbered, keptFrom, plainly}
-use Rattle.rules.specs.Trees.{Route, Forest, none, leaf, nest, KeptRoute, KeptList, keeping, under, eachKeeping, keptOver, childless, kept, entriesOf}
-use Rattle.rules.specs.Answers.{Answer, noRecords, valueAt, valuesAt, anyBare, partLength, inFront, answerOf}
-use Rattle.rules.specs.Admission.{Spelled, Answers, FirstSpelled, here, later, NoneSpelled, FirstAnswer, OneSpelling, ReadsFirst, ReaderAdmits}
-use Rattle.rules.specs.Steps.{andThen, orElse, isEnding, valueRecord, addRead, listReads, addLevel, keptReads, firstRead}
+use Rattle.rules.specs.Pieces.{Span}
+use Rattle.rules.specs.Spelling.{Cut, Spells, goes, joined}
+use Rattle.rules.specs.Keeping.{Numbered, plainly}
+use Rattle.rules.specs.Trees.{KeptList, entriesOf}
+use Rattle.rules.specs.Answers.{Answer, valueAt, valuesAt, answerOf}
+use Rattle.rules.specs.Steps.{andThen, isEnding, valueRecord, addRead, listReads, addLevel, keptReads}
 use Rattle.rules.proofs.Pieces.{takenOf, piece-valued}
-use Rattle.rules.proofs.KeptEntry.{as-kept}
-use Rattle.rules.proofs.Spelled.{ReadThrough, Required, spelled-through, through-spelled, spells-rooted, spells-once, piece-front, taken-length}
+use Rattle.rules.proofs.Spelled.{ReadThrough, Required, spelled-through, through-spelled, spells-rooted, piece-front, taken-length}
 
 -- one route's entries, and then others
 list-through : (ks : List Numbered) (fs : List Entry) (lv at : ℕ) (p : List ℕ) (u : ℕ × List ParamRecord) → listReads ks lv at p ≡ Some u → ReadThrough fs (drop (u .0) p) → ReadThrough (plainly ks ++ fs) p

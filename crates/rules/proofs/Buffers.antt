@@ -1,30 +1,12 @@
 -- Records written over a buffer.
-use mathlib.Core.Path.{_≡_, refl, sym, ap, subst, _∙_}
+use mathlib.Core.Path.{_≡_, ap, _∙_}
 use mathlib.Core.List.{List, [], _∷_, _++_}
-use mathlib.Core.Bool.{Bool, true, false, cond, _&&_, _||_}
-use Prim.Native.Nat.{ℕ, zero, suc, _+_, _-_, _<_, _≤_, max}
+use Prim.Native.Nat.{ℕ, _+_, _-_, _<_, _≤_}
 use native.Mathlib.Omega.{arith}
 use native.Mathlib.Nat.{zero-add, add-zero}
-use native.Mathlib.Numerals.{add-one}
-use lib.Dec.{eqb, leb}
 use lib.ListN.{length, take, drop, set, getD, replicate, length-drop, length-append, length-take}
-use Rattle.std.specs.Options.{isSome}
-use Rattle.std.proofs.shelf.Lists.{take-at, drop-at, set-at, take-more, length-take-le, append-assoc, drop-drop, append-nil, take-append-drop, take-append-le, take-take, take-rest, drop-replicate, at-drop-more, at-drop-all}
-use Rattle.std.proofs.shelf.Tests.{cond-true, cond-both, cases-bool, both-ways, and-parts, and-from, leb-true, le-leb}
-use Rattle.std.proofs.shelf.Ways.{tells}
-use Rattle.std.specs.declared.option.Option.{Option}
-use Rattle.std.specs.declared.option.Option.the-variants.{Some, None}
-use Rattle.rules.specs.declared.records.LevelRecord.{LevelRecord}
-use Rattle.rules.specs.declared.records.ParamRecord.{ParamRecord}
-use Rattle.rules.specs.Paths.{longestPath, rooted, lawful}
-use Rattle.rules.specs.Entries.{Entry, isOptional, isBare, hasValue, meansOptional, meansValue, meansCount, withEntry}
-use Rattle.rules.specs.Taking.{Taken, nothing, orNothing, taking, testing}
-use Rattle.rules.specs.Pieces.{Span}
-use Rattle.rules.specs.Keeping.{optionals, asKept, stillKept, keepOrDrop, Numbered, keptFrom}
-use Rattle.rules.specs.Trees.{Route, Forest, none, leaf, nest, beside, KeptRoute, KeptList, keeping, under, eachKeeping, keptOver, childless, kept, Bounds, noBounds, levelOver, larger}
-use Rattle.rules.specs.Answers.{Answer, noRecords, anyBare, partLength}
+use Rattle.std.proofs.shelf.Lists.{drop-at, set-at, take-more, length-take-le, append-assoc, take-append-drop, take-append-le, take-take, drop-replicate}
 use Rattle.rules.specs.Records.{overwritten}
-use Rattle.rules.specs.Steps.{andThen, orElse, isEnding, meaningTakes, meaningKept, keptEntries, hasBare, addTaken, listTakes, valueRecord, addRead, listReads, countRead, readInto, addLevel, keptReads, firstRead, levelsAfter, paramsAfter, inUse, Matched, roomAfter, reaches}
 
 -- a record in front of what is written
 pub overwritten-none : {A : Type 0} (ys : List A) (at : ℕ) → overwritten ys at [] ≡ ys

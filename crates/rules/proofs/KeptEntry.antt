@@ -1,7 +1,7 @@
 -- The laws of single entries that concern keeping: an entry where it is kept, and where it is dropped.
 use mathlib.Core.Path.{_≡_, refl}
 use mathlib.Core.List.{List}
-use mathlib.Core.Bool.{Bool, true, false, cond}
+use mathlib.Core.Bool.{true, false, cond}
 use Prim.Native.Nat.{ℕ}
 use Rattle.std.proofs.shelf.Tests.{both-ways}
 use Rattle.rules.specs.Entries.{Entry, unit, static, param, optional, splat, isOptional, hasValue, isBare}

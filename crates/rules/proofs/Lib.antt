@@ -14,3 +14,4 @@ pub mod RecordOf
 pub mod Lawfully
 pub mod Bounded
 pub mod Keepings
+pub mod RowRead

@@ -1,30 +1,21 @@
 -- What a match leaves, from what its parts leave: a route over what stands below it, a route over nothing, and one tree before another.
-use mathlib.Core.Path.{_≡_, refl, sym, ap, subst, _∙_}
+use mathlib.Core.Path.{_≡_, refl, sym, ap, _∙_}
 use mathlib.Core.List.{List, [], _∷_, _++_}
-use mathlib.Core.Bool.{Bool, true, false, cond, _&&_, _||_}
-use Prim.Native.Nat.{ℕ, zero, suc, _+_, _-_, _<_, _≤_, max}
+use mathlib.Core.Bool.{Bool, true, false, cond, _||_}
+use Prim.Native.Nat.{ℕ, _+_, _-_, _≤_}
 use native.Mathlib.Omega.{arith}
-use native.Mathlib.Nat.{zero-add, add-zero}
-use native.Mathlib.Numerals.{add-one}
-use lib.Dec.{eqb, leb}
-use lib.ListN.{length, take, drop, set, getD, replicate, length-drop, length-append, length-take}
-use Rattle.std.specs.Options.{isSome}
-use Rattle.std.proofs.shelf.Lists.{take-at, drop-at, set-at, take-more, length-take-le, append-assoc, drop-drop, append-nil, take-append-drop, take-append-le, take-take, take-rest, drop-replicate, at-drop-more, at-drop-all}
-use Rattle.std.proofs.shelf.Tests.{cond-true, cond-both, cases-bool, both-ways, and-parts, and-from, leb-true, le-leb}
-use Rattle.std.proofs.shelf.Ways.{tells}
+use native.Mathlib.Nat.{add-zero}
+use lib.ListN.{length, drop, set, length-append}
 use Rattle.std.specs.declared.option.Option.{Option}
 use Rattle.std.specs.declared.option.Option.the-variants.{Some, None}
 use Rattle.rules.specs.declared.records.LevelRecord.{LevelRecord}
 use Rattle.rules.specs.declared.records.ParamRecord.{ParamRecord}
-use Rattle.rules.specs.Paths.{longestPath, rooted, lawful}
-use Rattle.rules.specs.Entries.{Entry, isOptional, isBare, hasValue, meansOptional, meansValue, meansCount, withEntry}
-use Rattle.rules.specs.Taking.{Taken, nothing, orNothing, taking, testing}
-use Rattle.rules.specs.Pieces.{Span}
-use Rattle.rules.specs.Keeping.{optionals, asKept, stillKept, keepOrDrop, Numbered, keptFrom}
-use Rattle.rules.specs.Trees.{Route, Forest, none, leaf, nest, beside, KeptRoute, KeptList, keeping, under, eachKeeping, keptOver, childless, kept, Bounds, noBounds, levelOver, larger}
+use Rattle.rules.specs.Entries.{Entry, isOptional, isBare}
+use Rattle.rules.specs.Keeping.{asKept, stillKept, keepOrDrop, keptFrom}
+use Rattle.rules.specs.Trees.{Route, KeptList, keeping, under, childless}
 use Rattle.rules.specs.Answers.{Answer, noRecords, anyBare, partLength}
 use Rattle.rules.specs.Records.{overwritten}
-use Rattle.rules.specs.Steps.{andThen, orElse, isEnding, meaningTakes, meaningKept, keptEntries, hasBare, addTaken, listTakes, valueRecord, addRead, listReads, countRead, readInto, addLevel, keptReads, firstRead, levelsAfter, paramsAfter, inUse, Matched, roomAfter, reaches}
+use Rattle.rules.specs.Steps.{andThen, orElse, isEnding, keptEntries, hasBare, listTakes, listReads, countRead, readInto, addLevel, firstRead, levelsAfter, paramsAfter, inUse, Matched}
 use Rattle.rules.proofs.KeptEntry.{as-kept}
 use Rattle.rules.proofs.Buffers.{overwritten-none, overwritten-more, overwritten-room, overwritten-both}
 use Rattle.rules.proofs.ReadMore.{takes-read}

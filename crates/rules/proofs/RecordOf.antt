@@ -1,8 +1,8 @@
 -- A lawful text of a kind, its record, and the entry that the record gives out.
 use mathlib.Core.Path.{_≡_, refl, sym, ap, subst, _∙_}
-use mathlib.Core.List.{List, [], _∷_, _++_}
+use mathlib.Core.List.{List}
 use mathlib.Core.Bool.{Bool, true, false, cond, _&&_}
-use Prim.Native.Nat.{ℕ, _+_, _-_, _≤_}
+use Prim.Native.Nat.{ℕ, _-_, _≤_}
 use native.Mathlib.Omega.{arith}
 use lib.Dec.{eqb, leb, ltb}
 use lib.ListN.{length, take, drop, replicate}
@@ -11,8 +11,7 @@ use Rattle.std.proofs.shelf.Tests.{and-parts, leb-true, both-ways}
 use Rattle.std.proofs.shelf.Ways.{tells}
 use Rattle.std.specs.declared.option.Option.{Option}
 use Rattle.std.specs.declared.option.Option.the-variants.{Some, None}
-use Rattle.std.specs.declared.result.Result.{Result}
-use Rattle.std.specs.declared.result.Result.the-variants.{Ok, Err}
+use Rattle.std.specs.declared.result.Result.the-variants.{Ok}
 use Rattle.rules.specs.declared.segment.PathSegment.{PathSegment}
 use Rattle.rules.specs.declared.segment.SegmentKind.{SegmentKind}
 use Rattle.rules.specs.declared.segment.SegmentKind.the-variants.{Unit as AUnit, Static, Param, OptionalParam, Splat}

@@ -1,9 +1,8 @@
 -- A list reads a path to an ending just where the path spells it, and there is one way to spell it. By the laws of pieces alone.
 use mathlib.Core.Path.{_≡_, refl, sym, ap, subst, _∙_}
 use mathlib.Core.List.{List, [], _∷_, _++_}
-use mathlib.Core.Bool.{Bool, true, false}
+use mathlib.Core.Bool.{true, false}
 use Prim.Native.Nat.{ℕ, suc, _+_}
-use native.Mathlib.Omega.{arith}
 use lib.ListN.{length, take, drop}
 use Rattle.std.specs.shelf.Lists.{All}
 use Rattle.std.specs.Options.{isSome}
@@ -11,14 +10,14 @@ use Rattle.std.proofs.shelf.Lists.{drop-at, take-at, append-assoc}
 use Rattle.std.proofs.shelf.Tests.{eqb-true, both-ways}
 use Rattle.std.specs.declared.option.Option.{Option}
 use Rattle.std.specs.declared.option.Option.the-variants.{Some, None}
-use Rattle.rules.specs.Paths.{slash, rooted, Ending, nothing, one-slash}
+use Rattle.rules.specs.Paths.{rooted, Ending, nothing, one-slash}
 use Rattle.rules.specs.Entries.{Entry, isOptional}
 use Rattle.rules.specs.Taking.{Taken, taking}
 use Rattle.rules.specs.Pieces.{Span, Piece}
 use Rattle.rules.specs.Spelling.{Cut, Spells, ends, goes, joined}
 use Rattle.rules.specs.Admission.{SpelledInPieces}
 use Rattle.rules.specs.Steps.{isEnding}
-use Rattle.rules.proofs.Pieces.{takenOf, Cutting, piece-taken, taken-piece, piece-rooted, piece-valued}
+use Rattle.rules.proofs.Pieces.{takenOf, piece-taken, taken-piece, piece-rooted, piece-valued}
 
 -- one entry after another takes something, and an ending is left
 abbrev pub ReadThrough : List Entry → List ℕ → Type 0

@@ -1,19 +1,18 @@
 -- A path by its first byte, and the words that it begins with.
 use mathlib.Core.Path.{_≡_, refl, sym, ap, _∙_}
 use mathlib.Core.List.{List, [], _∷_, _++_}
-use mathlib.Core.Bool.{Bool, true, false, cond, not, _&&_}
+use mathlib.Core.Bool.{Bool, true, false, cond, _&&_}
 use mathlib.Core.Logic.{⊎-elim}
-use Prim.Native.Nat.{ℕ, _+_, _-_, _<_, _≤_}
+use Prim.Native.Nat.{ℕ, _+_, _-_}
 use native.Mathlib.Omega.{arith}
 use lib.Dec.{eqb}
 use lib.ListN.{length, getD, take, drop}
 use Rattle.std.specs.shelf.Lists.{leading}
 use Rattle.std.proofs.shelf.Lists.{take-rest}
-use Rattle.std.proofs.shelf.Tests.{eq-eqb, ne-eqb, eqb-true, both-ways, and-parts, cases-bool, cond-true, cond-false}
-use Rattle.std.specs.declared.option.Option.{Option}
+use Rattle.std.proofs.shelf.Tests.{eq-eqb, ne-eqb, eqb-true, both-ways, and-parts, cases-bool, cond-false}
 use Rattle.std.specs.declared.option.Option.the-variants.{Some, None}
 use Rattle.rules.specs.Paths.{slash, isSlash, plain, slashFree, rooted}
-use Rattle.rules.specs.Taking.{Taken, takeValue, takeParam, begins, takeWord, takeSlashed, wordOf, takeStatic}
+use Rattle.rules.specs.Taking.{takeValue, takeParam, begins, takeWord, takeSlashed, wordOf, takeStatic}
 
 -- a path that begins with a slash, and the rest behind it as the checker reads `rest @ ..`
 pub at-slash : {Y : Type 0} (F : List ℕ → Y) (xs : List ℕ) → getD xs 0 0 ≡ slash → F xs ≡ F (slash ∷ take (length xs - 1) (drop 1 xs))

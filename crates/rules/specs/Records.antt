@@ -1,5 +1,5 @@
 -- The records that calls give out, and the buffers that hold them.
-use mathlib.Core.List.{List, [], _∷_, _++_}
+use mathlib.Core.List.{List, [], _++_}
 use mathlib.Core.Bool.{Bool, true, false, _&&_}
 use lib.Dec.{eqb}
 use Prim.Native.Nat.{ℕ, _+_, _-_}

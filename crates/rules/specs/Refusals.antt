@@ -1,12 +1,11 @@
 -- REFUSALS: what each case of a refusal is told as, and what a call tells.
-use mathlib.Core.List.{List, [], _∷_}
+use mathlib.Core.List.{List}
 use Prim.Native.Nat.{ℕ}
 use lib.Chars.{codes}
 use Rattle.std.specs.declared.result.Result.{Result}
 use Rattle.std.specs.declared.result.Result.the-variants.{Ok, Err}
 use Rattle.rules.specs.declared.refusal.Cause.{Cause}
 use Rattle.rules.specs.declared.refusal.Cause.the-variants.{Count, Place, Length, Slash}
-use Rattle.rules.specs.declared.refusal.EntryFault.{EntryFault}
 use Rattle.rules.specs.declared.refusal.Refusal.{Refusal}
 use Rattle.rules.specs.declared.refusal.Refusal.the-variants.{LongPath, Unrooted, ShortOut, NoRoute, BadId, BadEntry}
 

@@ -27,6 +27,11 @@ beside none g = g
 beside (leaf r f) g = leaf r (beside f g)
 beside (nest r k f) g = nest r k (beside f g)
 
+-- the forests of some items, one after another
+abbrev pub forestOf : {X : Type 0} → (X → Forest) → List X → Forest
+forestOf f [] = none
+forestOf f (x ∷ xs) = beside (f x) (forestOf f xs)
+
 -- a route that keeps the first n of its OptionalParams
 pub record KeptRoute : Type 0 where
   pub id : ℕ
@@ -83,6 +88,11 @@ levelOver n b = record { levels = b .levels + 1; entries = n + b .entries }
 
 abbrev pub larger : Bounds → Bounds → Bounds
 larger a b = record { levels = max (a .levels) (b .levels); entries = max (a .entries) (b .entries) }
+
+-- the largest of some items
+abbrev pub largest : {X : Type 0} → (X → Bounds) → List X → Bounds
+largest b [] = noBounds
+largest b (x ∷ xs) = larger (b x) (largest b xs)
 
 -- the bounds of a forest
 abbrev pub boundsOf : Forest → Bounds

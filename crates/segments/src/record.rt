@@ -1,5 +1,4 @@
 ghost use mathlib.Core.Path.{_≡_};
-ghost use mathlib.Core.Bool.{Bool};
 ghost use lib.ListN.{take, set};
 ghost use Rattle.rules.specs.Entries.{longestText};
 ghost use Rattle.rules.specs.Records.{recordWith, kindHasValue, recordIsBare};

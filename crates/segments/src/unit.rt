@@ -1,4 +1,4 @@
-ghost use mathlib.Core.Path.{_≡_, refl};
+ghost use mathlib.Core.Path.{refl};
 ghost use Rattle.std.specs.declared.option.Option.the-variants.{None};
 use crate::kind::PossibleRouteMatch;
 use rules::segment::PathSegment;

@@ -1,14 +1,14 @@
 -- What match_route leaves, at each of its exits.
 use mathlib.Core.Path.{_≡_, refl, sym, ap, subst, _∙_}
-use mathlib.Core.List.{List, [], _∷_, _++_}
+use mathlib.Core.List.{List}
 use mathlib.Core.Bool.{Bool, true, false, cond, _&&_}
-use mathlib.Core.Logic.{_⊎_, inl, inr, ⊎-elim}
-use Prim.Native.Nat.{ℕ, _+_, _-_, _<_, _≤_}
+use mathlib.Core.Logic.{_⊎_, inl, inr}
+use Prim.Native.Nat.{ℕ, _+_, _-_, _<_}
 use native.Mathlib.Omega.{arith}
 use native.Mathlib.Nat.{zero-add}
 use lib.Dec.{leb}
 use lib.ListN.{length, replicate}
-use Rattle.std.proofs.shelf.Tests.{cases-bool, cond-true, cond-false, both-ways, and-parts, and-from, leb-true, leb-false, le-leb, lt-leb}
+use Rattle.std.proofs.shelf.Tests.{both-ways, and-parts, leb-true}
 use Rattle.std.specs.declared.option.Option.{Option}
 use Rattle.std.specs.declared.option.Option.the-variants.{Some, None}
 use Rattle.std.specs.declared.result.Result.{Result}
@@ -16,13 +16,13 @@ use Rattle.std.specs.declared.result.Result.the-variants.{Ok, Err}
 use Rattle.rules.specs.declared.records.LevelRecord.{LevelRecord}
 use Rattle.rules.specs.declared.records.ParamRecord.{ParamRecord}
 use Rattle.rules.specs.declared.refusal.Refusal.{Refusal}
-use Rattle.rules.specs.declared.refusal.Refusal.the-variants.{LongPath, Unrooted, ShortOut, NoRoute}
+use Rattle.rules.specs.declared.refusal.Refusal.the-variants.{LongPath, Unrooted}
 use Rattle.rules.specs.Paths.{longestPath, rooted, lawful}
 use Rattle.rules.specs.Trees.{Forest, kept, Bounds}
 use Rattle.rules.specs.Answers.{Answer}
 use Rattle.rules.specs.Admission.{FirstAnswer, NoneSpelled}
 use Rattle.rules.specs.Records.{zeroLevel, zeroParam, padded, overwritten}
-use Rattle.rules.specs.Refusals.{Told, answered, refused, bare, numbered, told}
+use Rattle.rules.specs.Refusals.{answered, refused, bare}
 use Rattle.rules.specs.Steps.{firstRead, levelsAfter, paramsAfter, Matched, reaches}
 use Rattle.rules.proofs.Admitted.{reader-admits}
 use Rattle.rules.proofs.Buffers.{overwritten-zeros}

@@ -4,8 +4,6 @@ use mathlib.Core.Bool.{cond}
 use Prim.Native.Nat.{ℕ}
 use lib.Dec.{eqb, leb}
 use lib.ListN.{length}
-use Rattle.std.specs.declared.result.Result.{Result}
-use Rattle.std.specs.declared.result.Result.the-variants.{Ok, Err}
 use Rattle.rules.specs.declared.refusal.Cause.the-variants.{Count}
 use Rattle.rules.specs.Entries.{Entry}
 use Rattle.rules.specs.Trees.{Route, routeOf}

@@ -1,10 +1,9 @@
 use mathlib.Core.Path.{_≡_, sym, ap, _∙_}
 use mathlib.Core.List.{List, _++_}
 use mathlib.Core.Logic.{⊎-elim}
-use Prim.Native.Nat.{ℕ, _-_, _≤_, min}
+use Prim.Native.Nat.{ℕ, _-_, min}
 use native.Mathlib.Omega.{arith}
 use lib.ListN.{length, take, drop, replicate, length-take}
-use borrow.Author.Needs.{needs}
 use Rattle.std.proofs.shelf.Lists.{drop-replicate, take-all}
 use Rattle.std.proofs.shelf.Tests.{cases-lt}
 use Rattle.rules.specs.declared.segment.PathSegment.{PathSegment}

@@ -1,4 +1,4 @@
-use mathlib.Core.Path.{_≡_, sym, _∙_}
+use mathlib.Core.Path.{sym}
 use native.Mathlib.Omega.{arith}
 use Rattle.rules.proofs.Takes.{optionals-le, entries-length, optional-one}
 use Rattle.lists.proofs.chain.ChainList.optional_count.Needs as need

@@ -1,8 +1,6 @@
-use mathlib.Core.Path.{_≡_, sym, ap, _∙_}
-use mathlib.Core.Bool.{true, false}
-use Rattle.std.specs.declared.option.Option.the-variants.{Some, None}
-use Rattle.std.specs.declared.result.Result.the-variants.{Ok, Err}
-use Rattle.rules.specs.Places.{entryOf, kindFault, orFault}
+use mathlib.Core.Path.{sym, ap, _∙_}
+use Rattle.std.specs.declared.result.Result.the-variants.{Ok}
+use Rattle.rules.specs.Places.{entryOf, orFault}
 use Rattle.rules.proofs.RecordOf.{record-whole}
 use Rattle.segments.proofs.segment.Segment.new.Needs as need
 

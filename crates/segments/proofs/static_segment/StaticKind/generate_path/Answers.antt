@@ -1,9 +1,7 @@
 use mathlib.Core.Path.{_≡_, ap, _∙_}
-use mathlib.Core.List.{List}
 use lib.ListN.{set, take}
 use Rattle.std.proofs.shelf.Lists.{take-all}
 use Rattle.rules.specs.declared.segment.SegmentKind.the-variants.{Static}
-use Rattle.rules.specs.declared.segment.PathSegment.{PathSegment}
 use Rattle.rules.specs.Records.{recordWith}
 use Rattle.rules.proofs.RecordOf.{text-short}
 use Rattle.segments.proofs.static_segment.StaticKind.generate_path.Needs as need

@@ -1,4 +1,4 @@
-use mathlib.Core.Path.{_≡_, ap, _∙_}
+use mathlib.Core.Path.{ap, _∙_}
 use Rattle.rules.specs.Trees.{routeOf, keeping, under}
 use Rattle.rules.specs.Steps.{firstRead, Matched}
 use Rattle.rules.proofs.Keepings.{keeping-found, keeping-next}
