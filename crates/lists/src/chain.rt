@@ -42,6 +42,10 @@ pub impl KindList for End as EndList {
         false
     }
 
+    fn has_optional(&self) -> bool {
+        false
+    }
+
     fn optional_count(&self) -> usize {
         0
     }
@@ -80,6 +84,10 @@ pub impl<K: PossibleRouteMatch, R: KindList> KindList for Chain<K, R> as ChainLi
 
     fn has_bare(&self) -> bool {
         self.head.is_bare() || self.tail.has_bare()
+    }
+
+    fn has_optional(&self) -> bool {
+        self.head.optional() || self.tail.has_optional()
     }
 
     fn optional_count(&self) -> usize {

@@ -8,7 +8,7 @@ ghost use Rattle.std.specs.Options.{isSome};
 ghost use Rattle.rules.specs.Paths.{lawful};
 ghost use Rattle.rules.specs.Entries.{Entry, lawfulEntries};
 ghost use Rattle.rules.specs.Keeping.{optionals, keptFrom};
-ghost use Rattle.rules.specs.Steps.{keptEntries, hasBare, listTakes, listReads, readInto, roomAfter};
+ghost use Rattle.rules.specs.Steps.{keptEntries, hasBare, hasOptional, listTakes, listReads, readInto, roomAfter};
 use rules::records::ParamRecord;
 
 // A flat list of kinds. Its meaning is the list of their entries.
@@ -25,6 +25,10 @@ pub trait KindList {
     // Whether a bare slash is among the entries.
     fn has_bare(&self) -> bool
         ensures { λ r. ⌜ r ≡ hasBare (entries (now (self .entry))) ⌝ };
+
+    // Whether an optional entry is among them.
+    fn has_optional(&self) -> bool
+        ensures { λ r. ⌜ r ≡ hasOptional (entries (now (self .entry))) ⌝ };
 
     // How many of the entries are optional.
     fn optional_count(&self) -> usize

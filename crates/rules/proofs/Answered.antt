@@ -18,7 +18,7 @@ use Rattle.rules.specs.Taking.{Taken, taking}
 use Rattle.rules.specs.Pieces.{Span}
 use Rattle.rules.specs.Spelling.{Cut, Spells, goes, joined}
 use Rattle.rules.specs.Keeping.{Numbered, plainly}
-use Rattle.rules.specs.Trees.{KeptList, entriesOf}
+use Rattle.rules.specs.KeptLists.{KeptRoute, entriesOf}
 use Rattle.rules.specs.Answers.{Answer, valueAt, valuesAt, answerOf}
 use Rattle.rules.specs.Steps.{andThen, isEnding, valueRecord, addRead, listReads, addLevel, keptReads}
 use Rattle.rules.proofs.Pieces.{takenOf, piece-valued}
@@ -41,7 +41,7 @@ list-through (k ∷ ks) fs lv at p u h rs = go (taking (k .entry) p) refl h (λ 
     go None e h ih = let z : _≡_ {A = ℕ} 0 1 = cc in absurd (omega arith)
     go (Some t) e h ih = (t, e, went t (listReads ks lv (at + t .0) (drop (t .0) p)) h (λ v. ih (at + t .0) (drop (t .0) p) v))
 
-kept-through : (ks : KeptList) (lv at : ℕ) (p : List ℕ) (a : Answer) → keptReads ks lv at p ≡ Some a → ReadThrough (entriesOf ks) p
+kept-through : (ks : List KeptRoute) (lv at : ℕ) (p : List ℕ) (a : Answer) → keptReads ks lv at p ≡ Some a → ReadThrough (entriesOf ks) p
 kept-through [] lv at p a h = ⊎-elim (λ e. e) (λ e. let z : _≡_ {A = Option Answer} None (Some a) = sym (cond-false (isEnding p) _ None e) ∙ h in let y : _≡_ {A = ℕ} 0 1 = cc in absurd (omega arith)) (cases-bool (isEnding p))
 kept-through (k ∷ ks) lv at p a h = go (listReads (k .entries) lv at p) refl h (λ at q b. kept-through ks (lv + 1) at q b)
   where
@@ -86,7 +86,7 @@ front (k ∷ ks) fs lv at p cs s = go s (λ at q ds. front ks fs lv at q ds)
         }
 
 -- what a spelled list answers is read off its pieces
-pub spelled-answer : (ks : KeptList) (lv at : ℕ) (p : List ℕ) (cs : List Cut) → Spells (entriesOf ks) p cs → keptReads ks lv at p ≡ Some (answerOf ks lv at cs)
+pub spelled-answer : (ks : List KeptRoute) (lv at : ℕ) (p : List ℕ) (cs : List Cut) → Spells (entriesOf ks) p cs → keptReads ks lv at p ≡ Some (answerOf ks lv at cs)
 spelled-answer [] lv at p cs s = cond-true (isEnding p) _ None (spelled-through s)
 spelled-answer (k ∷ ks) lv at p cs s =
     let f = front (k .entries) (entriesOf ks) lv at p cs s in
@@ -94,7 +94,7 @@ spelled-answer (k ∷ ks) lv at p cs s =
     ap (λ o. andThen o (λ u. addLevel k at u (keptReads ks (lv + 1) (at + u .0) (drop (u .0) p)))) (f .read)
     ∙ ap (addLevel k at (length (joined own), valuesAt (k .entries) lv at own)) (spelled-answer ks (lv + 1) (at + length (joined own)) (drop (length (joined own)) p) (drop (length (k .entries)) cs) (f .rest))
 
-pub answer-spelled : (ks : KeptList) (lv at : ℕ) (p : List ℕ) (a : Answer) → Required (entriesOf ks) → rooted p ≡ true → keptReads ks lv at p ≡ Some a → (cs : List Cut) × Spells (entriesOf ks) p cs × (a ≡ answerOf ks lv at cs)
+pub answer-spelled : (ks : List KeptRoute) (lv at : ℕ) (p : List ℕ) (a : Answer) → Required (entriesOf ks) → rooted p ≡ true → keptReads ks lv at p ≡ Some a → (cs : List Cut) × Spells (entriesOf ks) p cs × (a ≡ answerOf ks lv at cs)
 answer-spelled ks lv at p a q r h =
     let s = through-spelled (entriesOf ks) p q (kept-through ks lv at p a h) r in
     let o : Some a ≡ Some (answerOf ks lv at (s .0)) = sym h ∙ spelled-answer ks lv at p (s .0) (s .1) in

@@ -4,11 +4,12 @@ use mathlib.Core.List.{List, [], _∷_}
 use mathlib.Core.Bool.{Bool, true, _&&_}
 use Prim.Native.Nat.{ℕ, zero, suc, _+_, _-_, _<_, _≤_, max}
 use native.Mathlib.Omega.{arith}
+use lib.Dec.{leb}
 use lib.ListN.{length, getD, drop}
 use Rattle.std.proofs.shelf.Ways.{tells}
 use Rattle.std.proofs.shelf.Lists.{at-drop-more, at-drop-all}
-use Rattle.rules.specs.Trees.{Route, Forest, none, leaf, nest, beside, forestOf, Bounds, noBounds, levelOver, larger, largest, boundsOf, Enough}
-use Rattle.rules.specs.Steps.{reaches}
+use Rattle.rules.specs.Forests.{Route, Forest, none, leaf, nest, beside, forestOf}
+use Rattle.rules.specs.Bounds.{Bounds, noBounds, levelOver, larger, largest, boundsOf, Enough}
 
 pub enough-leaf : (r : Route) → Enough (leaf r none) (levelOver (length (r .entries)) noBounds)
 enough-leaf r = record { levels = omega arith; entries = omega arith }
@@ -33,10 +34,6 @@ pub enough-row : {X : Type 0} (f : X → Forest) (b : X → Bounds) → ((x : X)
 enough-row f b h [] = record { levels = omega arith; entries = omega arith }
 enough-row f b h (x ∷ xs) = enough-beside (f x) (forestOf f xs) (b x) (largest b xs) (h x) (enough-row f b h xs)
 
--- two trees first and second
-pub reaches-larger : (a b : Bounds) (levels params : ℕ) → reaches (larger a b) levels params ≡ (reaches a levels params && reaches b levels params)
-reaches-larger a b levels params = grind (arith, tells)
-
 -- the items of a row one after another
 module _ {X : Type 0} (b : X → Bounds) where
   pub item-within : (xs : List X) (i : ℕ) (x : X) → i < length xs → x ≡ getD xs i x → (b x .levels ≤ largest b xs .levels) × (b x .entries ≤ largest b xs .entries)
@@ -44,15 +41,23 @@ module _ {X : Type 0} (b : X → Bounds) where
   item-within (y ∷ ys) zero x l e = (omega (arith, ap (λ z. b z .levels) e), omega (arith, ap (λ z. b z .entries) e))
   item-within (y ∷ ys) (suc i) x l e = let h = item-within ys i x (omega arith) e in (omega (arith, h .0), omega (arith, h .1))
 
-  module _ (levels params : ℕ) where
-    abbrev pub rowReaches : List X → Bool
-    rowReaches xs = reaches (largest b xs) levels params
+-- whether a row is within a limit, by one of its bounds
+module _ {X : Type 0} (b : X → Bounds) (pick : Bounds → ℕ) (both : (x y : Bounds) → pick (larger x y) ≡ max (pick x) (pick y)) (none : pick noBounds ≡ 0) (limit : ℕ) where
+  abbrev pub rowWithin : List X → Bool
+  rowWithin xs = leb (pick (largest b xs)) limit
 
-    reaches-none : reaches noBounds levels params ≡ true
-    reaches-none = grind (arith, tells)
+  within-both : (m n : ℕ) → leb (max m n) limit ≡ (leb m limit && leb n limit)
+  within-both m n = grind (arith, tells)
 
-    pub row-reaches-more : (xs : List X) (i : ℕ) (x : X) → i < length xs → x ≡ getD xs i x → rowReaches (drop i xs) ≡ (reaches (b x) levels params && rowReaches (drop (i + 1) xs))
-    row-reaches-more xs i x l e = at-drop-more rowReaches xs i x l ∙ reaches-larger (b (getD xs i x)) (largest b (drop (i + 1) xs)) levels params ∙ ap (λ y. reaches (b y) levels params && rowReaches (drop (i + 1) xs)) (sym e)
+  pub row-within-more : (xs : List X) (i : ℕ) (x : X) → i < length xs → x ≡ getD xs i x → rowWithin (drop i xs) ≡ (leb (pick (b x)) limit && rowWithin (drop (i + 1) xs))
+  row-within-more xs i x l e =
+      at-drop-more rowWithin xs i x l
+      ∙ ap (λ n. leb n limit) (both (b (getD xs i x)) (largest b (drop (i + 1) xs)))
+      ∙ within-both (pick (b (getD xs i x))) (pick (largest b (drop (i + 1) xs)))
+      ∙ ap (λ y. leb (pick (b y)) limit && rowWithin (drop (i + 1) xs)) (sym e)
 
-    pub row-reaches-all : (xs : List X) (i : ℕ) → length xs ≤ i → rowReaches (drop i xs) ≡ true
-    row-reaches-all xs i l = at-drop-all rowReaches xs i l ∙ reaches-none
+  pub row-within-all : (xs : List X) (i : ℕ) → length xs ≤ i → rowWithin (drop i xs) ≡ true
+  row-within-all xs i l = at-drop-all rowWithin xs i l ∙ ap (λ n. leb n limit) none ∙ zero-within
+    where
+      zero-within : leb 0 limit ≡ true
+      zero-within = grind (arith, tells)

@@ -8,7 +8,8 @@ use Rattle.std.specs.declared.option.Option.{Option}
 use Rattle.std.specs.declared.option.Option.the-variants.{Some, None}
 use Rattle.rules.specs.declared.records.LevelRecord.{LevelRecord}
 use Rattle.rules.specs.declared.records.ParamRecord.{ParamRecord}
-use Rattle.rules.specs.Trees.{Route, Forest, none, leaf, nest, KeptList, keeping, under, eachKeeping, keptOver, childless, kept}
+use Rattle.rules.specs.Forests.{Route, Forest, none, leaf, nest}
+use Rattle.rules.specs.KeptLists.{KeptList, keeping, under, eachKeeping, keptOver, childless, kept}
 use Rattle.rules.specs.Answers.{Answer}
 use Rattle.rules.specs.Steps.{orElse, firstRead, levelsAfter, paramsAfter, Matched}
 use Rattle.rules.proofs.FirstRead.{first-append}

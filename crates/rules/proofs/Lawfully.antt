@@ -6,7 +6,7 @@ use Rattle.std.proofs.shelf.Tests.{and-from, and-parts}
 use Rattle.std.specs.declared.option.Option.{Option}
 use Rattle.std.specs.declared.option.Option.the-variants.{Some, None}
 use Rattle.rules.specs.Entries.{Entry, lawfulEntry, lawfulEntries, lawfulMeaning, withEntry}
-use Rattle.rules.specs.Trees.{Route, Forest, none, leaf, nest, beside, forestOf, lawfulForest}
+use Rattle.rules.specs.Forests.{Route, Forest, none, leaf, nest, beside, forestOf, lawfulForest}
 
 pub with-lawful : (o : Option Entry) (es : List Entry) → lawfulMeaning o ≡ true → lawfulEntries es ≡ true → lawfulEntries (withEntry o es) ≡ true
 with-lawful None es h k = k

@@ -12,7 +12,8 @@ use Rattle.rules.specs.declared.records.LevelRecord.{LevelRecord}
 use Rattle.rules.specs.declared.records.ParamRecord.{ParamRecord}
 use Rattle.rules.specs.Entries.{Entry, isOptional, isBare}
 use Rattle.rules.specs.Keeping.{asKept, stillKept, keepOrDrop, keptFrom}
-use Rattle.rules.specs.Trees.{Route, KeptList, keeping, under, childless}
+use Rattle.rules.specs.Forests.{Route}
+use Rattle.rules.specs.KeptLists.{KeptList, keeping, under, childless}
 use Rattle.rules.specs.Answers.{Answer, noRecords, anyBare, partLength}
 use Rattle.rules.specs.Records.{overwritten}
 use Rattle.rules.specs.Steps.{andThen, orElse, isEnding, keptEntries, hasBare, listTakes, listReads, countRead, readInto, addLevel, firstRead, levelsAfter, paramsAfter, inUse, Matched}

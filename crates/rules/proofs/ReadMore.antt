@@ -15,7 +15,7 @@ use Rattle.rules.specs.declared.records.ParamRecord.{ParamRecord}
 use Rattle.rules.specs.Entries.{Entry, isOptional, hasValue, meansOptional, meansValue, meansCount, withEntry}
 use Rattle.rules.specs.Taking.{Taken, taking}
 use Rattle.rules.specs.Keeping.{asKept, stillKept, keepOrDrop, Numbered, keptFrom}
-use Rattle.rules.specs.Trees.{kept}
+use Rattle.rules.specs.KeptLists.{kept}
 use Rattle.rules.specs.Records.{overwritten}
 use Rattle.rules.specs.Steps.{andThen, meaningTakes, meaningKept, keptEntries, addTaken, listTakes, valueRecord, addRead, listReads, countRead, readInto}
 use Rattle.rules.proofs.Buffers.{overwritten-more}

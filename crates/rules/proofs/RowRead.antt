@@ -5,7 +5,8 @@ use Prim.Native.Nat.{ℕ, _+_, _<_, _≤_}
 use lib.ListN.{length, drop, getD}
 use Rattle.std.proofs.shelf.Lists.{at-drop-more, at-drop-all}
 use Rattle.std.specs.declared.option.Option.the-variants.{None}
-use Rattle.rules.specs.Trees.{Forest, forestOf, kept}
+use Rattle.rules.specs.Forests.{Forest, forestOf}
+use Rattle.rules.specs.KeptLists.{kept}
 use Rattle.rules.specs.Steps.{orElse, firstRead}
 use Rattle.rules.proofs.FirstRead.{first-beside}
 

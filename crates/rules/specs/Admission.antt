@@ -10,17 +10,18 @@ use Rattle.std.specs.declared.option.Option.the-variants.{Some, None}
 use Rattle.rules.specs.Paths.{lawful, Ending}
 use Rattle.rules.specs.Entries.{Entry}
 use Rattle.rules.specs.Spelling.{Cut, Spells, joined}
-use Rattle.rules.specs.Trees.{KeptList, Forest, kept, entriesOf}
+use Rattle.rules.specs.KeptLists.{KeptList, kept, entriesOf}
+use Rattle.rules.specs.Forests.{Forest}
 use Rattle.rules.specs.Answers.{Answer, answerOf}
 use Rattle.rules.specs.Steps.{firstRead}
 
 -- a path spells a kept list, in some pieces
 abbrev pub Spelled : List ℕ → KeptList → Type 0
-Spelled p k = (cs : List Cut) × Spells (entriesOf k) p cs
+Spelled p k = (cs : List Cut) × Spells (entriesOf (k .routes)) p cs
 
 -- a path spells a kept list, and this is its answer
 abbrev pub Answers : KeptList → List ℕ → Answer → Type 0
-Answers k p a = (cs : List Cut) × Spells (entriesOf k) p cs × (a ≡ answerOf k 0 0 cs)
+Answers k p a = (cs : List Cut) × Spells (entriesOf (k .routes)) p cs × (a ≡ answerOf (k .routes) 0 0 cs)
 
 -- the first of some kept lists that a path spells
 pub data FirstSpelled (p : List ℕ) : List KeptList → KeptList → Type 0 where

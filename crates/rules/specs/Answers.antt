@@ -12,7 +12,7 @@ use Rattle.rules.specs.Entries.{isBare}
 use Rattle.rules.specs.Pieces.{Span}
 use Rattle.rules.specs.Spelling.{Cut, joined}
 use Rattle.rules.specs.Keeping.{Numbered}
-use Rattle.rules.specs.Trees.{KeptRoute, KeptList}
+use Rattle.rules.specs.KeptLists.{KeptRoute}
 
 -- one level record for each route, and one parameter record for each Param and Splat, root first
 pub record Answer : Type 0 where
@@ -49,8 +49,8 @@ inFront k level at cs below = record {
   params = valuesAt (k .entries) level at cs ++ below .params;
 }
 
--- a kept list whose first route is at some level, and whose pieces start at `at`
-abbrev pub answerOf : KeptList → ℕ → ℕ → List Cut → Answer
+-- the routes of a kept list, the first of which is at some level, and whose pieces start at `at`
+abbrev pub answerOf : List KeptRoute → ℕ → ℕ → List Cut → Answer
 answerOf [] level at cs = noRecords
 answerOf (k ∷ ks) level at cs =
     let own = take (length (k .entries)) cs in

@@ -4,7 +4,11 @@ pub mod Taking
 pub mod Pieces
 pub mod Spelling
 pub mod Keeping
-pub mod Trees
+pub mod Modes
+pub mod Forests
+pub mod Lines
+pub mod KeptLists
+pub mod Bounds
 pub mod Answers
 pub mod Admission
 pub mod Records

@@ -7,7 +7,7 @@ use Rattle.std.specs.declared.result.Result.the-variants.{Ok, Err}
 use Rattle.rules.specs.declared.refusal.Cause.{Cause}
 use Rattle.rules.specs.declared.refusal.Cause.the-variants.{Count, Place, Length, Slash}
 use Rattle.rules.specs.declared.refusal.Refusal.{Refusal}
-use Rattle.rules.specs.declared.refusal.Refusal.the-variants.{LongPath, Unrooted, ShortOut, NoRoute, BadId, BadEntry}
+use Rattle.rules.specs.declared.refusal.Refusal.the-variants.{LongPath, Unrooted, ShortOut, NoRoute, BadId, TooDeep, BadEntry, MixedParent, NoLine, NoVariant}
 
 -- what a refusal carries beside its number: nothing, or an entry's number and its cause
 pub data Carried : Type 0 where
@@ -21,7 +21,11 @@ numbered Unrooted = (2, bare)
 numbered ShortOut = (3, bare)
 numbered NoRoute = (4, bare)
 numbered BadId = (5, bare)
+numbered TooDeep = (7, bare)
 numbered (BadEntry f) = (9, entry (f .number) (f .cause))
+numbered MixedParent = (10, bare)
+numbered NoLine = (13, bare)
+numbered NoVariant = (15, bare)
 
 -- the names that are shown
 abbrev pub nameOf : Refusal → List ℕ
@@ -30,7 +34,11 @@ nameOf Unrooted = codes "Unrooted"
 nameOf ShortOut = codes "ShortOut"
 nameOf NoRoute = codes "NoRoute"
 nameOf BadId = codes "BadId"
+nameOf TooDeep = codes "TooDeep"
 nameOf (BadEntry f) = codes "BadEntry"
+nameOf MixedParent = codes "MixedParent"
+nameOf NoLine = codes "NoLine"
+nameOf NoVariant = codes "NoVariant"
 
 abbrev pub causeName : Cause → List ℕ
 causeName Count = codes "count"

@@ -14,7 +14,8 @@ use Rattle.rules.specs.Paths.{isSlash}
 use Rattle.rules.specs.Entries.{Entry, isOptional, isBare, hasValue}
 use Rattle.rules.specs.Taking.{Taken, nothing, taking}
 use Rattle.rules.specs.Keeping.{asKept, stillKept, keepOrDrop, Numbered}
-use Rattle.rules.specs.Trees.{KeptRoute, KeptList, Bounds}
+use Rattle.rules.specs.KeptLists.{KeptRoute, KeptList}
+use Rattle.rules.specs.Bounds.{Bounds}
 use Rattle.rules.specs.Answers.{Answer, noRecords, anyBare, partLength}
 use Rattle.rules.specs.Records.{overwritten}
 
@@ -49,6 +50,10 @@ keptEntries n (e ∷ es) = keepOrDrop (stillKept (isOptional e) n) (keptEntries 
 abbrev pub hasBare : List Entry → Bool
 hasBare [] = false
 hasBare (e ∷ es) = isBare e || hasBare es
+
+abbrev pub hasOptional : List Entry → Bool
+hasOptional [] = false
+hasOptional (e ∷ es) = isOptional e || hasOptional es
 
 -- how many bytes and values a list takes
 abbrev pub addTaken : Taken → Bool → Option (ℕ × ℕ) → Option (ℕ × ℕ)
@@ -86,14 +91,14 @@ abbrev pub addLevel : KeptRoute → ℕ → ℕ × List ParamRecord → Option A
 addLevel k at u None = None
 addLevel k at u (Some a) = Some (record { levels = record { id = k .id; start = at; len = partLength (anyBare (k .entries)) (u .0) } ∷ a .levels; params = u .1 ++ a .params })
 
-abbrev pub keptReads : KeptList → ℕ → ℕ → List ℕ → Option Answer
+abbrev pub keptReads : List KeptRoute → ℕ → ℕ → List ℕ → Option Answer
 keptReads [] level at p = cond (isEnding p) (Some noRecords) None
 keptReads (k ∷ ks) level at p = andThen (listReads (k .entries) level at p) (λ u. addLevel k at u (keptReads ks (level + 1) (at + u .0) (drop (u .0) p)))
 
 -- the first of some kept lists that reads the path to an ending
 abbrev pub firstRead : List KeptList → ℕ → ℕ → List ℕ → Option Answer
 firstRead [] level at p = None
-firstRead (l ∷ ls) level at p = orElse (keptReads l level at p) (firstRead ls level at p)
+firstRead (l ∷ ls) level at p = orElse (keptReads (l .routes) level at p) (firstRead ls level at p)
 
 -- what a match leaves in the buffers, from the records l and p on, and how many records are in use then
 abbrev pub levelsAfter : Option Answer → ℕ → List LevelRecord → List LevelRecord

@@ -2,6 +2,7 @@
 //! are the plain values that calls give out, and the theorems about the definitions.
 
 pub mod laws;
+pub mod mode;
 pub mod records;
 pub mod refusal;
 pub mod segment;

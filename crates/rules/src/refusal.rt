@@ -37,8 +37,16 @@ pub enum Refusal {
     NoRoute,
     // the id of a new route is 0
     BadId,
+    // a nest would be a seventeenth level
+    TooDeep,
     // a list is too long, or an entry breaks a rule
     BadEntry(EntryFault),
+    // a route that is given children has an OptionalParam beside another entry
+    MixedParent,
+    // the number of a line is not below their count
+    NoLine,
+    // the number of a kept list is not below their count
+    NoVariant,
 }
 
 impl Cause {
@@ -66,7 +74,11 @@ impl Refusal {
             Refusal::ShortOut => 3,
             Refusal::NoRoute => 4,
             Refusal::BadId => 5,
+            Refusal::TooDeep => 7,
             Refusal::BadEntry(_) => 9,
+            Refusal::MixedParent => 10,
+            Refusal::NoLine => 13,
+            Refusal::NoVariant => 15,
         }
     }
 
@@ -80,7 +92,11 @@ impl Refusal {
             Refusal::ShortOut => "ShortOut",
             Refusal::NoRoute => "NoRoute",
             Refusal::BadId => "BadId",
+            Refusal::TooDeep => "TooDeep",
             Refusal::BadEntry(_) => "BadEntry",
+            Refusal::MixedParent => "MixedParent",
+            Refusal::NoLine => "NoLine",
+            Refusal::NoVariant => "NoVariant",
         }
     }
 }

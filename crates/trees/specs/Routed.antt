@@ -8,7 +8,9 @@ use lib.ListN.{length, replicate}
 use Rattle.rules.specs.declared.records.LevelRecord.{LevelRecord}
 use Rattle.rules.specs.declared.records.ParamRecord.{ParamRecord}
 use Rattle.rules.specs.Paths.{longestPath, rooted, lawful}
-use Rattle.rules.specs.Trees.{Forest, kept, Bounds}
+use Rattle.rules.specs.Forests.{Forest}
+use Rattle.rules.specs.KeptLists.{kept}
+use Rattle.rules.specs.Bounds.{Bounds}
 use Rattle.rules.specs.Answers.{Answer}
 use Rattle.rules.specs.Admission.{FirstAnswer, NoneSpelled}
 use Rattle.rules.specs.Records.{zeroLevel, zeroParam, padded}

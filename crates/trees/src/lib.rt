@@ -2,5 +2,7 @@
 
 pub mod below;
 pub mod nested_route;
+pub mod pair;
 pub mod route;
+pub mod row;
 pub mod tree;

@@ -1,18 +1,22 @@
 ghost use mathlib.Core.Path.{_≡_};
-ghost use mathlib.Core.Bool.{true};
+ghost use denote.Ref.{now};
 ghost use Prim.Native.Nat.{_+_, _^_, _<_, _≤_};
 ghost use lib.ListN.{length};
-ghost use denote.Ref.{now};
+ghost use mathlib.Core.Bool.{true};
+ghost use Rattle.rules.specs.declared.mode.SsrMode.the-variants.{OutOfOrder};
 ghost use Rattle.rules.specs.Paths.{lawful};
-ghost use Rattle.rules.specs.Refusals.{told, readOff};
-ghost use Rattle.rules.specs.Trees.{routeOf, keeping, under, levelOver};
-ghost use Rattle.trees.specs.Making.{routeMade};
+ghost use Rattle.rules.specs.Forests.{routeOf};
+ghost use Rattle.rules.specs.KeptLists.{keeping, under};
+ghost use Rattle.rules.specs.Bounds.{levelOver};
 ghost use Rattle.rules.specs.Answers.{partLength};
+ghost use Rattle.rules.specs.Refusals.{told, readOff};
 ghost use Rattle.rules.specs.Steps.{hasBare, firstRead, Matched};
+ghost use Rattle.trees.specs.Making.{routeMade, nestMade};
 use crate::below::Below;
 use crate::below::Childless;
 use crate::tree::MatchNestedRoutes;
 use lists::kind_list::KindList;
+use rules::mode::SsrMode;
 use rules::records::LevelRecord;
 use rules::records::ParamRecord;
 use rules::records::RouteId;
@@ -21,18 +25,24 @@ use rules::refusal::EntryFault;
 use rules::refusal::Refusal;
 use segments::check::ROUTE_LIMIT;
 
-// One route: its id, its list of kinds, and what stands below it.
+// The most levels of a tree that is made of nests.
+pub const LEVEL_LIMIT: usize = 16;
+
+// One route over any tree of children: its id, its list of kinds, its mode and hook, and what stands below it.
 #[derive(Drop)]
 pub struct NestedRoute<L, C> {
     id: RouteId,
     list: L,
+    mode: SsrMode,
+    hook: u16,
     children: C,
 }
 
 impl<L: KindList + Drop> NestedRoute<L, Childless> {
-    // A childless route. Refusal 5 where the id is 0, and 9 where the list has more than 6 entries.
+    // A childless route with the mode OutOfOrder and no hook. Refusal 5 where the id is 0, and 9 where the list has more than 6
+    // entries.
     pub fn new(id: RouteId, list: L) -> Result<NestedRoute<L, Childless>, Refusal>
-        ensures made { λ r. ⌜ told (readOff (λ s. routeOf (s .id) (L·KindList .entries (s .list))) r) ≡ routeMade id (L·KindList .entries list) ⌝ }
+        ensures { λ r. ⌜ told (readOff (λ s. routeOf (s .id) (L·KindList .entries (s .list)) (s .mode) (s .hook)) r) ≡ routeMade id (L·KindList .entries list) ⌝ }
     {
         if id == 0 {
             return Err(Refusal::BadId);
@@ -46,7 +56,59 @@ impl<L: KindList + Drop> NestedRoute<L, Childless> {
         Ok(NestedRoute {
             id,
             list,
+            mode: SsrMode::OutOfOrder,
+            hook: 0,
             children: Childless,
+        })
+    }
+
+    // The same route with a mode and a hook, which counts only under Static. They are set before the children are given.
+    pub fn ssr_mode(self, mode: SsrMode, hook: u16) -> NestedRoute<L, Childless>
+        ensures { λ r. ⌜ routeOf (r .id) (L·KindList .entries (r .list)) (r .mode) (r .hook) ≡ routeOf (self .id) (L·KindList .entries (self .list)) mode hook ⌝ }
+    {
+        let NestedRoute {
+            id,
+            list,
+            mode: _,
+            hook: _,
+            children: Childless,
+        } = self;
+        NestedRoute {
+            id,
+            list,
+            mode,
+            hook,
+            children: Childless,
+        }
+    }
+
+    // The same route over a tree of children. Refusal 7 where it would be the seventeenth level, and 10 where it has an
+    // OptionalParam beside another entry.
+    pub fn child<C: MatchNestedRoutes + Drop>(
+        self,
+        children: C,
+    ) -> Result<NestedRoute<L, C>, Refusal>
+        ensures { λ r. ⌜ told (readOff (λ s. (routeOf (s .id) (L·KindList .entries (s .list)) (s .mode) (s .hook), C·MatchNestedRoutes .routes (s .children))) r) ≡ nestMade (routeOf (self .id) (L·KindList .entries (self .list)) (self .mode) (self .hook)) (C·MatchNestedRoutes .routes children) (C·MatchNestedRoutes .bounds children) ⌝ }
+    {
+        let NestedRoute {
+            id,
+            list,
+            mode,
+            hook,
+            children: Childless,
+        } = self;
+        if !children.fits_levels(LEVEL_LIMIT - 1) {
+            return Err(Refusal::TooDeep);
+        }
+        if list.has_optional() && list.room_after(1).is_none() {
+            return Err(Refusal::MixedParent);
+        }
+        Ok(NestedRoute {
+            id,
+            list,
+            mode,
+            hook,
+            children,
         })
     }
 }
@@ -79,7 +141,7 @@ impl<L: KindList, C: Below> NestedRoute<L, C> {
         requires placed { ⌜ at + length (now path) < 2 ^ 64 ⌝ }
         requires deep { ⌜ l + levelOver (length (L·KindList .entries (now self .list))) (C·Below .bounds (now self .children)) .levels ≤ length (now levels) ⌝ }
         requires wide { ⌜ p + levelOver (length (L·KindList .entries (now self .list))) (C·Below .bounds (now self .children)) .entries ≤ length (now params) ⌝ }
-        ensures { λ r. ⌜ Matched (firstRead (under (keeping (routeOf (now (self .entry) .id) (L·KindList .entries (now (self .entry) .list))) keep) (C·Below .lists (now (self .entry) .children))) l at (now (path .entry))) l p r (now (levels .entry)) (now (levels .exit)) (now (params .entry)) (now (params .exit)) ⌝ }
+        ensures { λ r. ⌜ Matched (firstRead (under (keeping (routeOf (now (self .entry) .id) (L·KindList .entries (now (self .entry) .list)) (now (self .entry) .mode) (now (self .entry) .hook)) keep) (C·Below .lists (now (self .entry) .children))) l at (now (path .entry))) l p r (now (levels .entry)) (now (levels .exit)) (now (params .entry)) (now (params .exit)) ⌝ }
     {
         let (taken, values) = self.list.take(keep, path)?;
         let used = self.children
@@ -102,17 +164,21 @@ impl<L: KindList, C: Below> NestedRoute<L, C> {
 }
 
 pub impl<L: KindList, C: Below> MatchNestedRoutes for NestedRoute<L, C> as NestedRoutes {
-    ghost routes = { λ s. C·Below .over (s .children) (routeOf (s .id) (L·KindList .entries (s .list))) };
+    ghost routes = { λ s. C·Below .over (s .children) (routeOf (s .id) (L·KindList .entries (s .list)) (s .mode) (s .hook)) };
 
     ghost bounds = { λ s. levelOver (length (L·KindList .entries (s .list))) (C·Below .bounds (s .children)) };
 
-    ghost enough = { λ s. C·Below .enough (s .children) (routeOf (s .id) (L·KindList .entries (s .list))) };
+    ghost enough = { λ s. C·Below .enough (s .children) (routeOf (s .id) (L·KindList .entries (s .list)) (s .mode) (s .hook)) };
 
-    ghost abides = { λ s. C·Below .abides (s .children) (routeOf (s .id) (L·KindList .entries (s .list))) (L·KindList .abides (s .list)) };
+    ghost abides = { λ s. C·Below .abides (s .children) (routeOf (s .id) (L·KindList .entries (s .list)) (s .mode) (s .hook)) (L·KindList .abides (s .list)) };
 
-    fn fits(&self, levels: usize, params: usize) -> bool {
-        match self.list.room_after(params) {
-            Some(left) => levels > 0 && self.children.fits_below(levels - 1, left),
+    fn fits_levels(&self, levels: usize) -> bool {
+        levels > 0 && self.children.levels_below(levels - 1)
+    }
+
+    fn fits_entries(&self, entries: usize) -> bool {
+        match self.list.room_after(entries) {
+            Some(left) => self.children.entries_below(left),
             None => false,
         }
     }

@@ -2,7 +2,7 @@ use Prim.Native.Nat.{_+_}
 use native.Mathlib.Omega.{arith}
 use lib.ListN.{drop}
 use borrow.Author.Needs.{needs}
-use Rattle.rules.specs.Trees.{routeOf}
+use Rattle.rules.specs.Forests.{routeOf}
 use Rattle.rules.specs.Steps.{Matched, firstRead}
 use Rattle.rules.proofs.Takes.{list-took}
 use Rattle.rules.proofs.MatchMore.{keeping-none, keeping-child-none, keeping-some}
@@ -10,7 +10,7 @@ use Rattle.trees.proofs.nested_route.NestedRoute.match_keeping.Needs as need
 
 pub returns-in-Break-taken : need.returns-in-Break-taken
 returns-in-Break-taken g c =
-    let r = routeOf (c .args .self .now .id) (g .L·KindList .entries (c .args .self .now .list)) in
+    let r = routeOf (c .args .self .now .id) (g .L·KindList .entries (c .args .self .now .list)) (c .args .self .now .mode) (c .args .self .now .hook) in
     let below = g .C·Below .lists (c .args .self .now .children) in
     rw (c .from-residual .ensures) (keeping-none r (c .args .keep) below (c .args .l) (c .args .p) (c .args .at) (c .args .path .now) _ _ (c .in-Break-taken .ensures tt))
 
@@ -44,7 +44,7 @@ match-below-requires g c κs =
 
 pub returns-in-Break-used : need.returns-in-Break-used
 returns-in-Break-used g c =
-    let r = routeOf (c .args .self .now .id) (g .L·KindList .entries (c .args .self .now .list)) in
+    let r = routeOf (c .args .self .now .id) (g .L·KindList .entries (c .args .self .now .list)) (c .args .self .now .mode) (c .args .self .now .hook) in
     let below = g .C·Below .lists (c .args .self .now .children) in
     let path = c .args .path .now in
     let taken = c .in-Continue-taken .taken in
@@ -54,7 +54,7 @@ returns-in-Break-used g c =
 
 pub returns : need.returns
 returns g c =
-    let r = routeOf (c .args .self .now .id) (g .L·KindList .entries (c .args .self .now .list)) in
+    let r = routeOf (c .args .self .now .id) (g .L·KindList .entries (c .args .self .now .list)) (c .args .self .now .mode) (c .args .self .now .hook) in
     let below = g .C·Below .lists (c .args .self .now .children) in
     let path = c .args .path .now in
     let taken = c .in-Continue-taken .taken in

@@ -1,0 +1,38 @@
+-- LINES: one for each childless route, as the routes are declared, a parent's children in its stead.
+use mathlib.Core.List.{List, [], _∷_, _++_}
+use mathlib.Core.Bool.{cond, not, _&&_}
+use Prim.Native.Nat.{ℕ}
+use lib.Dec.{eqb}
+use Rattle.rules.specs.declared.mode.SsrMode.{SsrMode}
+use Rattle.rules.specs.Entries.{Entry}
+use Rattle.rules.specs.Modes.{higher, isStatic}
+use Rattle.rules.specs.Forests.{Route, Forest, none, leaf, nest}
+
+-- LINE: the ids from the root down, all their entries in order, their highest-ranked mode, and the hooks other than 0 of the
+-- Static routes on it, root first.
+pub record Line : Type 0 where
+  pub ids : List ℕ
+  pub entries : List Entry
+  pub mode : SsrMode
+  pub hooks : List ℕ
+
+-- a route's hook, if it counts
+abbrev pub hooksOf : Route → List ℕ
+hooksOf r = cond (isStatic (r .mode) && not (eqb (r .hook) 0)) (r .hook ∷ []) []
+
+-- the line of a childless route
+abbrev pub lineOf : Route → Line
+lineOf r = record { ids = r .id ∷ []; entries = r .entries; mode = r .mode; hooks = hooksOf r }
+
+-- a line below a route
+abbrev pub lineUnder : Route → Line → Line
+lineUnder r l = record { ids = r .id ∷ l .ids; entries = r .entries ++ l .entries; mode = higher (r .mode) (l .mode); hooks = hooksOf r ++ l .hooks }
+
+abbrev pub linesUnder : Route → List Line → List Line
+linesUnder r [] = []
+linesUnder r (l ∷ ls) = lineUnder r l ∷ linesUnder r ls
+
+abbrev pub lines : Forest → List Line
+lines none = []
+lines (leaf r f) = lineOf r ∷ lines f
+lines (nest r k f) = linesUnder r (lines k) ++ lines f
