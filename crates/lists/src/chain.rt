@@ -7,7 +7,9 @@ use crate::kept::test_kept;
 use crate::kept::value_count;
 use crate::kind_list::KindList;
 use rules::records::ParamRecord;
+use rules::segment::PathSegment;
 use segments::kind::PossibleRouteMatch;
+use segments::record::kept_record;
 
 // The end of a list, and so the list of no kinds.
 #[derive(Clone, Copy, Drop)]
@@ -65,6 +67,14 @@ pub impl KindList for End as EndList {
         _p: usize,
     ) -> bool {
         true
+    }
+
+    fn generate(&self, _out: &mut [PathSegment], at: usize) -> usize {
+        at
+    }
+
+    fn generate_kept(&self, _keep: usize, _out: &mut [PathSegment], at: usize) -> usize {
+        at
     }
 }
 
@@ -144,5 +154,22 @@ pub impl<K: PossibleRouteMatch, R: KindList> KindList for Chain<K, R> as ChainLi
             len,
         };
         true
+    }
+
+    fn generate(&self, out: &mut [PathSegment], at: usize) -> usize {
+        let own = self.head.generate_path(out, at);
+        self.tail.generate(out, at + own)
+    }
+
+    fn generate_kept(&self, keep: usize, out: &mut [PathSegment], at: usize) -> usize {
+        let Some(left) = still_kept(self.head.optional(), keep) else {
+            return self.tail.generate_kept(0, out, at);
+        };
+        let own = self.head.generate_path(out, at);
+        if own == 0 {
+            return self.tail.generate_kept(left, out, at);
+        }
+        out[at] = kept_record(out[at]);
+        self.tail.generate_kept(left, out, at + 1)
     }
 }

@@ -8,8 +8,10 @@ ghost use Rattle.std.specs.Options.{isSome};
 ghost use Rattle.rules.specs.Paths.{lawful};
 ghost use Rattle.rules.specs.Entries.{Entry, lawfulEntries};
 ghost use Rattle.rules.specs.Keeping.{optionals, keptFrom};
+ghost use Rattle.rules.specs.Records.{recordsOf, overwritten};
 ghost use Rattle.rules.specs.Steps.{keptEntries, hasBare, hasOptional, listTakes, listReads, readInto, roomAfter};
 use rules::records::ParamRecord;
+use rules::segment::PathSegment;
 
 // A flat list of kinds. Its meaning is the list of their entries.
 pub trait KindList {
@@ -59,4 +61,16 @@ pub trait KindList {
         requires placed { ⌜ at + length (now path) < 2 ^ 64 ⌝ }
         ensures test { λ r. ⌜ r ≡ isSome (listReads (keptFrom number keep (entries (now (self .entry)))) level at (now (path .entry))) ⌝ }
         ensures written { λ _. ⌜ now (params .exit) ≡ readInto (listReads (keptFrom number keep (entries (now (self .entry)))) level at (now (path .entry))) p (now (params .entry)) ⌝ };
+
+    // Writes the entries' records from `out[at]` on, and answers where they end.
+    fn generate(&self, out: &mut [PathSegment], at: usize) -> usize
+        requires { ⌜ at + length (entries (now self)) ≤ length (now out) ⌝ }
+        ensures end { λ r. ⌜ r ≡ at + length (entries (now (self .entry))) ⌝ }
+        ensures written { λ _. ⌜ now (out .exit) ≡ overwritten (now (out .entry)) at (recordsOf (entries (now (self .entry)))) ⌝ };
+
+    // The same with `keep` of the optional entries kept, as parameters, and the others dropped.
+    fn generate_kept(&self, keep: usize, out: &mut [PathSegment], at: usize) -> usize
+        requires { ⌜ at + length (entries (now self)) ≤ length (now out) ⌝ }
+        ensures end { λ r. ⌜ r ≡ at + length (keptEntries keep (entries (now (self .entry)))) ⌝ }
+        ensures written { λ _. ⌜ now (out .exit) ≡ overwritten (now (out .entry)) at (recordsOf (keptEntries keep (entries (now (self .entry))))) ⌝ };
 }

@@ -1,11 +1,12 @@
 -- Records written over a buffer.
-use mathlib.Core.Path.{_≡_, ap, _∙_}
+use mathlib.Core.Path.{_≡_, ap, _∙_, sym}
 use mathlib.Core.List.{List, [], _∷_, _++_}
 use Prim.Native.Nat.{ℕ, _+_, _-_, _<_, _≤_}
 use native.Mathlib.Omega.{arith}
 use native.Mathlib.Nat.{zero-add, add-zero}
 use lib.ListN.{length, take, drop, set, getD, replicate, length-drop, length-append, length-take}
-use Rattle.std.proofs.shelf.Lists.{drop-at, set-at, take-more, length-take-le, append-assoc, take-append-drop, take-append-le, take-take, drop-replicate}
+use native.Mathlib.Numerals.{add-one}
+use Rattle.std.proofs.shelf.Lists.{set-split, drop-drop, drop-at, set-at, take-more, length-take-le, append-assoc, take-append-drop, take-append-le, take-take, drop-replicate, take-at}
 use Rattle.rules.specs.Records.{overwritten}
 
 -- a record in front of what is written
@@ -41,3 +42,22 @@ overwritten-both ys at xs zs room =
 -- records written over zero ones from the start
 pub overwritten-zeros : {A : Type 0} (n : ℕ) (z : A) (xs : List A) → overwritten (replicate n z) 0 xs ≡ xs ++ replicate (n - length xs) z
 overwritten-zeros n z xs = ap (λ r. xs ++ r) (ap (λ k. drop k (replicate n z)) (zero-add (length xs)) ∙ drop-replicate (length xs) n z)
+
+-- records written one behind another, the front first
+pub overwritten-then : {A : Type 0} (ys : List A) (at : ℕ) (xs zs : List A) → at + length xs + length zs ≤ length ys → overwritten (overwritten ys at xs) (at + length xs) zs ≡ overwritten ys at (xs ++ zs)
+overwritten-then ys at xs zs room =
+    let front = take at ys in
+    let back = drop (at + length xs) ys in
+    let lf : length front ≡ at = length-take-le at ys (omega arith) in
+    let la : length (front ++ xs) ≡ at + length xs = omega (arith, length-append front xs, lf) in
+    let a : take (at + length xs) (front ++ (xs ++ back)) ≡ front ++ xs = ap (take (at + length xs)) (sym (append-assoc front xs back)) ∙ take-at (front ++ xs) back (at + length xs) la in
+    let b : drop (at + length xs + length zs) (front ++ (xs ++ back)) ≡ drop (length zs) back = ap (drop (at + length xs + length zs)) (sym (append-assoc front xs back)) ∙ sym (drop-drop (length zs) (at + length xs) ((front ++ xs) ++ back)) ∙ ap (drop (length zs)) (drop-at (front ++ xs) back (at + length xs) la) in
+    let c : drop (length zs) back ≡ drop (at + length (xs ++ zs)) ys = drop-drop (length zs) (at + length xs) ys ∙ ap (λ n. drop n ys) (omega (arith, length-append xs zs)) in
+    ap (λ f. f ++ (zs ++ drop (at + length xs + length zs) (front ++ (xs ++ back)))) a
+    ∙ ap (λ r. (front ++ xs) ++ (zs ++ r)) (b ∙ c)
+    ∙ append-assoc front xs (zs ++ drop (at + length (xs ++ zs)) ys)
+    ∙ ap (λ r. front ++ r) (sym (append-assoc xs zs (drop (at + length (xs ++ zs)) ys)))
+
+-- one record
+pub overwritten-one : {A : Type 0} (ys : List A) (at : ℕ) (x : A) → at < length ys → set ys at x ≡ overwritten ys at (x ∷ [])
+overwritten-one ys at x l = set-split ys at x l ∙ ap (λ n. take at ys ++ (x ∷ drop n ys)) (sym (add-one at))

@@ -15,3 +15,4 @@ pub mod Lawfully
 pub mod Bounded
 pub mod Keepings
 pub mod RowRead
+pub mod Generated

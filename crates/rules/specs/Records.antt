@@ -1,5 +1,5 @@
 -- The records that calls give out, and the buffers that hold them.
-use mathlib.Core.List.{List, [], _++_}
+use mathlib.Core.List.{List, [], _++_, _∷_}
 use mathlib.Core.Bool.{Bool, true, false, _&&_}
 use lib.Dec.{eqb}
 use Prim.Native.Nat.{ℕ, _+_, _-_}
@@ -41,6 +41,11 @@ recordOf (param x) = recordWith Param x
 recordOf (optional x) = recordWith OptionalParam x
 recordOf (splat x) = recordWith Splat x
 
+-- the records of some entries
+abbrev pub recordsOf : List Entry → List PathSegment
+recordsOf [] = []
+recordsOf (e ∷ es) = recordOf e ∷ recordsOf es
+
 -- a buffer after a kind has appended its entry, if it has one, at a place; past its end a buffer takes nothing
 abbrev pub appended : List PathSegment → ℕ → Option Entry → List PathSegment
 appended out at None = out
@@ -75,3 +80,11 @@ kindIsStatic Splat = false
 -- the record of the bare slash
 abbrev pub recordIsBare : PathSegment → Bool
 recordIsBare s = kindIsStatic (s .kind) && (eqb (s .len) 1 && isSlash (getD (s .text) 0 0))
+
+-- a kind where it is kept
+abbrev pub kindAsKept : SegmentKind → SegmentKind
+kindAsKept AUnit = AUnit
+kindAsKept Static = Static
+kindAsKept Param = Param
+kindAsKept OptionalParam = Param
+kindAsKept Splat = Splat

@@ -1,7 +1,7 @@
 ghost use mathlib.Core.Path.{_≡_};
 ghost use lib.ListN.{take, set};
 ghost use Rattle.rules.specs.Entries.{longestText};
-ghost use Rattle.rules.specs.Records.{recordWith, kindHasValue, recordIsBare};
+ghost use Rattle.rules.specs.Records.{recordWith, kindHasValue, recordIsBare, kindAsKept};
 use rules::segment::PathSegment;
 use rules::segment::SegmentKind;
 
@@ -51,4 +51,15 @@ pub(crate) fn record_is_bare(segment: PathSegment) -> bool
         SegmentKind::Static => segment.len == 1 && segment.text[0] == b'/',
         _ => false,
     }
+}
+
+// The record of an entry where it is kept: an OptionalParam as a Param.
+pub fn kept_record(segment: PathSegment) -> PathSegment
+    ensures { λ r. ⌜ r ≡ record { kind = kindAsKept (segment .kind); len = segment .len; text = segment .text } ⌝ }
+{
+    let mut kept = segment;
+    if let SegmentKind::OptionalParam = segment.kind {
+        kept.kind = SegmentKind::Param;
+    }
+    kept
 }
