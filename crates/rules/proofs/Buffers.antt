@@ -61,3 +61,9 @@ overwritten-then ys at xs zs room =
 -- one record
 pub overwritten-one : {A : Type 0} (ys : List A) (at : ℕ) (x : A) → at < length ys → set ys at x ≡ overwritten ys at (x ∷ [])
 overwritten-one ys at x l = set-split ys at x l ∙ ap (λ n. take at ys ++ (x ∷ drop n ys)) (sym (add-one at))
+
+-- two parts, one behind the other, that kept the length of the buffer
+pub overwritten-parts : {A : Type 0} (ys ys₁ ys₂ : List A) (at at₁ : ℕ) (xs zs : List A) → at₁ ≡ at + length xs → ys₁ ≡ overwritten ys at xs → ys₂ ≡ overwritten ys₁ at₁ zs → at₁ ≤ length ys → length ys₁ ≡ length ys → length ys₂ ≡ length ys → ys₂ ≡ overwritten ys at (xs ++ zs)
+overwritten-parts ys ys₁ ys₂ at at₁ xs zs p a b l s t =
+    let room : at₁ + length zs ≤ length ys₁ = overwritten-room ys₁ at₁ zs (omega arith) (ap length (sym b) ∙ t ∙ sym s) in
+    b ∙ ap (λ n. overwritten ys₁ n zs) p ∙ ap (λ y. overwritten y (at + length xs) zs) a ∙ overwritten-then ys at xs zs (omega arith)

@@ -1,16 +1,14 @@
 -- The records of a list, one entry after another.
-use mathlib.Core.Path.{_≡_, refl, sym, ap, subst, _∙_}
-use mathlib.Core.List.{List, [], _∷_, _++_}
-use mathlib.Core.Bool.{Bool, true, false}
+use mathlib.Core.Path.{_≡_, refl, ap, subst, _∙_}
+use mathlib.Core.List.{List, [], _∷_}
 use Prim.Native.Nat.{ℕ, _+_, _<_, _≤_}
 use native.Mathlib.Omega.{arith}
-use native.Mathlib.Nat.{add-zero}
 use lib.ListN.{length, set, getD}
 use Rattle.std.proofs.shelf.Lists.{set-set, getD-set-same}
 use Rattle.std.specs.declared.option.Option.{Option}
 use Rattle.std.specs.declared.option.Option.the-variants.{Some, None}
 use Rattle.rules.specs.declared.segment.PathSegment.{PathSegment}
-use Rattle.rules.specs.Entries.{Entry, unit, static, param, optional, splat, isOptional, meansOptional, meansCount, withEntry}
+use Rattle.rules.specs.Entries.{Entry, unit, static, param, optional, splat, meansOptional, meansCount, withEntry}
 use Rattle.rules.specs.Keeping.{asKept, stillKept, keepOrDrop}
 use Rattle.rules.specs.Records.{recordOf, recordsOf, appended, overwritten, kindAsKept}
 use Rattle.rules.specs.Steps.{keptEntries}

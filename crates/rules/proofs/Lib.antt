@@ -16,3 +16,6 @@ pub mod Bounded
 pub mod Keepings
 pub mod RowRead
 pub mod Generated
+pub mod Capped
+pub mod LinesMore
+pub mod KeptOfLine

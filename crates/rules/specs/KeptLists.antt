@@ -66,3 +66,7 @@ entriesOf (k ∷ ks) = plainly (k .entries) ++ entriesOf ks
 abbrev pub ofLine : ℕ → List KeptList → List KeptList
 ofLine n [] = []
 ofLine n (l ∷ ls) = cond (eqb (l .line) n) (l ∷ ofLine n ls) (ofLine n ls)
+
+-- no kept list
+abbrev pub noList : KeptList
+noList = record { line = 0; routes = [] }

@@ -15,3 +15,4 @@ pub mod Records
 pub mod Refusals
 pub mod Places
 pub mod Steps
+pub mod Numbers

@@ -4,6 +4,7 @@ use mathlib.Core.Bool.{cond, not, _&&_}
 use Prim.Native.Nat.{ℕ}
 use lib.Dec.{eqb}
 use Rattle.rules.specs.declared.mode.SsrMode.{SsrMode}
+use Rattle.rules.specs.declared.mode.SsrMode.the-variants.{OutOfOrder}
 use Rattle.rules.specs.Entries.{Entry}
 use Rattle.rules.specs.Modes.{higher, isStatic}
 use Rattle.rules.specs.Forests.{Route, Forest, none, leaf, nest}
@@ -15,6 +16,10 @@ pub record Line : Type 0 where
   pub entries : List Entry
   pub mode : SsrMode
   pub hooks : List ℕ
+
+-- the end of a line, behind its last route
+abbrev pub noLine : Line
+noLine = record { ids = []; entries = []; mode = OutOfOrder; hooks = [] }
 
 -- a route's hook, if it counts
 abbrev pub hooksOf : Route → List ℕ

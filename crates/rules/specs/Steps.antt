@@ -10,14 +10,17 @@ use Rattle.std.specs.declared.option.Option.{Option}
 use Rattle.std.specs.declared.option.Option.the-variants.{Some, None}
 use Rattle.rules.specs.declared.records.LevelRecord.{LevelRecord}
 use Rattle.rules.specs.declared.records.ParamRecord.{ParamRecord}
+use Rattle.rules.specs.declared.records.LineRecord.{LineRecord}
+use Rattle.rules.specs.declared.segment.PathSegment.{PathSegment}
 use Rattle.rules.specs.Paths.{isSlash}
 use Rattle.rules.specs.Entries.{Entry, isOptional, isBare, hasValue}
 use Rattle.rules.specs.Taking.{Taken, nothing, taking}
 use Rattle.rules.specs.Keeping.{asKept, stillKept, keepOrDrop, Numbered}
-use Rattle.rules.specs.KeptLists.{KeptRoute, KeptList}
+use Rattle.rules.specs.KeptLists.{KeptRoute, KeptList, entriesOf}
 use Rattle.rules.specs.Bounds.{Bounds}
 use Rattle.rules.specs.Answers.{Answer, noRecords, anyBare, partLength}
-use Rattle.rules.specs.Records.{overwritten}
+use Rattle.rules.specs.Records.{overwritten, recordsOf}
+use Rattle.rules.specs.Lines.{Line}
 
 abbrev pub andThen : {A B : Type 0} → Option A → (A → Option B) → Option B
 andThen None f = None
@@ -125,3 +128,15 @@ roomAfter n room = cond (leb n room) (Some (room - n)) None
 -- whether buffers of these lengths reach some bounds
 abbrev pub reaches : Bounds → ℕ → ℕ → Bool
 reaches b levels params = leb (b .levels) levels && leb (b .entries) params
+
+-- what giving out a line leaves in the buffers, from the records i, e and h on, and where it ends
+pub record GivenOut (l : Line) (i e h : ℕ) (r : LineRecord) (is is′ : List ℕ) (es es′ : List PathSegment) (hs hs′ : List ℕ) : Type 0 where
+  pub end : r ≡ record { ids = i + length (l .ids); entries = e + length (l .entries); hooks = h + length (l .hooks); mode = l .mode }
+  pub ids : is′ ≡ overwritten is i (l .ids)
+  pub entries : es′ ≡ overwritten es e (recordsOf (l .entries))
+  pub hooks : hs′ ≡ overwritten hs h (l .hooks)
+
+-- the same of a kept list
+pub record KeptOut (ks : List KeptRoute) (at r : ℕ) (es es′ : List PathSegment) : Type 0 where
+  pub end : r ≡ at + length (entriesOf ks)
+  pub entries : es′ ≡ overwritten es at (recordsOf (entriesOf ks))

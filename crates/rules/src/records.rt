@@ -1,3 +1,7 @@
+use crate::mode::SsrMode;
+use crate::mode::SsrModeDebug;
+use crate::mode::SsrModePartialEq;
+
 // A route's id, from 1 on; 0 is no id.
 pub type RouteId = u16;
 
@@ -35,4 +39,13 @@ impl ParamRecord {
         start: 0,
         len: 0,
     };
+}
+
+// A line as it is given out into buffers: how many ids, entries and hooks it has there, and its mode.
+#[derive(Clone, Copy, PartialEq, Eq, Debug)]
+pub struct LineRecord {
+    pub ids: usize,
+    pub entries: usize,
+    pub hooks: usize,
+    pub mode: SsrMode,
 }

@@ -1,4 +1,4 @@
-use mathlib.Core.Path.{_≡_, ap, _∙_}
+use mathlib.Core.Path.{ap, _∙_}
 use Rattle.rules.specs.Keeping.{stillKept}
 use Rattle.rules.proofs.Generated.{wrote-kept}
 use Rattle.lists.proofs.chain.ChainList.generate_kept.Needs as need
