@@ -102,7 +102,11 @@ pub impl<K: PossibleRouteMatch, R: KindList> KindList for Chain<K, R> as ChainLi
 
     fn optional_count(&self) -> usize {
         let n = self.tail.optional_count();
-        if self.head.optional() { n + 1 } else { n }
+        if self.head.optional() {
+            n.saturating_add(1)
+        } else {
+            n
+        }
     }
 
     fn take(&self, keep: usize, path: &[u8]) -> Option<(usize, usize)> {

@@ -8,6 +8,7 @@ ghost use Rattle.std.specs.Options.{isSome};
 ghost use Rattle.rules.specs.Paths.{lawful};
 ghost use Rattle.rules.specs.Entries.{Entry, lawfulEntries};
 ghost use Rattle.rules.specs.Keeping.{optionals, keptFrom};
+ghost use Rattle.rules.specs.Numbers.{capped};
 ghost use Rattle.rules.specs.Records.{recordsOf, overwritten};
 ghost use Rattle.rules.specs.Steps.{keptEntries, hasBare, hasOptional, listTakes, listReads, readInto, roomAfter};
 use rules::records::ParamRecord;
@@ -32,10 +33,9 @@ pub trait KindList {
     fn has_optional(&self) -> bool
         ensures { λ r. ⌜ r ≡ hasOptional (entries (now (self .entry))) ⌝ };
 
-    // How many of the entries are optional.
+    // How many of the entries are optional, or the largest number where there are more.
     fn optional_count(&self) -> usize
-        requires { ⌜ length (entries (now self)) < 2 ^ 64 ⌝ }
-        ensures { λ r. ⌜ r ≡ optionals (entries (now (self .entry))) ⌝ };
+        ensures { λ r. ⌜ r ≡ capped (optionals (entries (now (self .entry)))) ⌝ };
 
     // How many bytes and how many values the list takes with `keep` of its optional entries kept, or None where one refuses.
     fn take(&self, keep: usize, path: &[u8]) -> Option<(usize, usize)>

@@ -32,13 +32,14 @@ capped-mul a zero = ap (λ n. min n (2 ^ 64 - 1)) (mul-zero (capped (a + 1))) �
 capped-mul a (suc b) =
     ⊎-elim
     (λ s. ⊎-elim
-      (λ t. ap (λ n. min (n * capped (suc b)) (2 ^ 64 - 1)) (capped-is (a + 1) s) ∙ ap (λ n. min ((a + 1) * n) (2 ^ 64 - 1)) (capped-is (suc b) t))
-      (λ t. large (a + 1) (suc b) (omega arith) (omega arith) (λ x y p q. omega (arith, mul-le-mul {n₁ = 1} {m₁ = 18446744073709551615} {n₂ = x} {m₂ = y} p q)) t)
-      (cases-lt (suc b) 18446744073709551616))
+    (λ t. ap (λ n. min (n * capped (suc b)) (2 ^ 64 - 1)) (capped-is (a + 1) s) ∙ ap (λ n. min ((a + 1) * n) (2 ^ 64 - 1)) (capped-is (suc b) t))
+    (λ t. large (a + 1) (suc b) (omega arith) (omega arith) (λ x y p q. omega (arith, mul-le-mul {n₁ = 1} {m₁ = 18446744073709551615} {n₂ = x} {m₂ = y} p q)) t)
+    (cases-lt (suc b) 18446744073709551616))
     (λ s. wide (a + 1) (suc b) (omega arith) s)
     (cases-lt (a + 1) 18446744073709551616)
   where
     large : (x y : ℕ) → 1 ≤ x → 1 ≤ y → ((u v : ℕ) → 1 ≤ u → 18446744073709551615 ≤ v → 18446744073709551615 ≤ u * v) → 18446744073709551616 ≤ y → min (capped x * capped y) (2 ^ 64 - 1) ≡ capped (x * y)
     large x y p q up t = omega (arith, up (capped x) (capped y) (omega arith) (omega arith), up x y p (omega arith))
+
     wide : (x y : ℕ) → 1 ≤ y → 18446744073709551616 ≤ x → min (capped x * capped y) (2 ^ 64 - 1) ≡ capped (x * y)
     wide x y q s = omega (arith, mul-le-mul {n₁ = 18446744073709551615} {m₁ = 1} {n₂ = capped x} {m₂ = capped y} (omega arith) (omega arith), mul-le-mul {n₁ = 18446744073709551615} {m₁ = 1} {n₂ = x} {m₂ = y} (omega arith) q)

@@ -30,9 +30,9 @@ wrote-front e es at out out₁ out₂ r h room w =
     record {
       end = omega (arith, w .end);
       written =
-        w .written
-        ∙ ap (λ o. overwritten o (at + 1) (recordsOf es)) (h ∙ overwritten-one out at (recordOf e) (omega arith))
-        ∙ overwritten-then out at (recordOf e ∷ []) (recordsOf es) (omega (arith, records-length es));
+          w .written
+          ∙ ap (λ o. overwritten o (at + 1) (recordsOf es)) (h ∙ overwritten-one out at (recordOf e) (omega arith))
+          ∙ overwritten-then out at (recordOf e ∷ []) (recordsOf es) (omega (arith, records-length es));
     }
 
 -- all entries

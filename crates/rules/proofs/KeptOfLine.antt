@@ -57,6 +57,7 @@ each-length r (suc m) ls =
   where
     more : (a b : ℕ) → b + a * b ≡ (1 + a) * b
     more a b = ap (λ n. n + a * b) (sym (one-mul b)) ∙ sym (add-mul 1 a b)
+
     shape : (m : ℕ) → 1 + (m + 1) ≡ suc m + 1
     shape m = omega arith
 
@@ -79,6 +80,7 @@ each-nth r (suc m) ls n pos h = ⊎-elim first (rest (λ k. each-nth r m ls k po
   where
     block : length (under (keeping r (suc m)) ls) ≡ length ls
     block = under-length-of (keeping r (suc m)) ls
+
     first : n < length ls → getD (eachKeeping r (suc m) ls) n noList ≡ put (keeping r (suc m - n / length ls)) (getD ls (n % length ls) noList)
     first lt =
         getD-append-left (under (keeping r (suc m)) ls) (eachKeeping r m ls) noList n (omega (arith, block))
@@ -88,6 +90,7 @@ each-nth r (suc m) ls n pos h = ⊎-elim first (rest (λ k. each-nth r m ls k po
       where
         all-left : (q : ℕ) → q ≡ 0 → suc m ≡ suc m - q
         all-left q z = omega arith
+
     rest : ((k : ℕ) → k < length (eachKeeping r m ls) → getD (eachKeeping r m ls) k noList ≡ put (keeping r (m - k / length ls)) (getD ls (k % length ls) noList)) → length ls ≤ n → getD (eachKeeping r (suc m) ls) n noList ≡ put (keeping r (suc m - n / length ls)) (getD ls (n % length ls) noList)
     rest ih le =
         let long = length-append (under (keeping r (suc m)) ls) (eachKeeping r m ls) in
@@ -106,6 +109,7 @@ of-after j n (l ∷ ls) = ap (λ b. cond b (record { line = n + l .line; routes 
   where
     same : (a : ℕ) → eqb (n + a) (n + j) ≡ eqb a j
     same a = ⊎-elim (λ h. eq-eqb (n + a) (n + j) (ap (λ x. n + x) (eqb-true a j h)) ∙ sym h) (λ h. ne-eqb (n + a) (n + j) (λ e. eqb-false a j h (omega arith)) ∙ sym h) (cases-bool (eqb a j))
+
     go : (b : Bool) → ofLine (n + j) (afterLines n ls) ≡ afterLines n (ofLine j ls) → cond b (record { line = n + l .line; routes = l .routes } ∷ ofLine (n + j) (afterLines n ls)) (ofLine (n + j) (afterLines n ls)) ≡ afterLines n (cond b (l ∷ ofLine j ls) (ofLine j ls))
     go true h = ap (λ x. record { line = n + l .line; routes = l .routes } ∷ x) h
     go false h = h
@@ -153,8 +157,8 @@ kept-within (nest r k f) =
     let b = length (lines f) in
     subst (λ m. Within m (kept (nest r k f))) (sym (length-append _ (lines f) ∙ ap (λ n. n + b) (under-length r (lines k))))
     (within-append (a + b) (keptOver r (kept k)) (afterLines a (kept f))
-      (within-each (a + b) r (optionals (r .entries)) (kept k) (within-more a (a + b) (kept k) (omega arith) (kept-within k)))
-      (within-after a b (kept f) (kept-within f)))
+    (within-each (a + b) r (optionals (r .entries)) (kept k) (within-more a (a + b) (kept k) (omega arith) (kept-within k)))
+    (within-after a b (kept f) (kept-within f)))
 
 of-past : (j n : ℕ) (ls : List KeptList) → Within n ls → n ≤ j → ofLine j ls ≡ []
 of-past j n [] a h = refl

@@ -19,3 +19,6 @@ pub mod Generated
 pub mod Capped
 pub mod LinesMore
 pub mod KeptOfLine
+pub mod NestLines
+pub mod PairLines
+pub mod RowLines

@@ -22,8 +22,11 @@ abbrev pub noLine : Line
 noLine = record { ids = []; entries = []; mode = OutOfOrder; hooks = [] }
 
 -- a route's hook, if it counts
+abbrev pub hookOf : SsrMode → ℕ → List ℕ
+hookOf mode hook = cond (isStatic mode && not (eqb hook 0)) (hook ∷ []) []
+
 abbrev pub hooksOf : Route → List ℕ
-hooksOf r = cond (isStatic (r .mode) && not (eqb (r .hook) 0)) (r .hook ∷ []) []
+hooksOf r = hookOf (r .mode) (r .hook)
 
 -- the line of a childless route
 abbrev pub lineOf : Route → Line

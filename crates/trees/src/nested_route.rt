@@ -2,13 +2,17 @@ ghost use mathlib.Core.Path.{_≡_};
 ghost use denote.Ref.{now};
 ghost use Prim.Native.Nat.{_+_, _^_, _<_, _≤_};
 ghost use lib.ListN.{length};
-ghost use mathlib.Core.Bool.{true};
+ghost use mathlib.Core.Bool.{true, not, _&&_};
+ghost use lib.Dec.{eqb};
 ghost use Rattle.rules.specs.declared.mode.SsrMode.the-variants.{OutOfOrder};
 ghost use Rattle.rules.specs.Paths.{lawful};
 ghost use Rattle.rules.specs.Forests.{routeOf};
 ghost use Rattle.rules.specs.KeptLists.{keeping, under};
 ghost use Rattle.rules.specs.Bounds.{levelOver};
 ghost use Rattle.rules.specs.Answers.{partLength};
+ghost use Rattle.rules.specs.Modes.{isStatic};
+ghost use Rattle.rules.specs.Lines.{hookOf};
+ghost use Rattle.rules.specs.Records.{overwritten};
 ghost use Rattle.rules.specs.Refusals.{told, readOff};
 ghost use Rattle.rules.specs.Steps.{hasBare, firstRead, Matched};
 ghost use Rattle.trees.specs.Making.{routeMade, nestMade};
@@ -18,11 +22,13 @@ use crate::tree::MatchNestedRoutes;
 use lists::kind_list::KindList;
 use rules::mode::SsrMode;
 use rules::records::LevelRecord;
+use rules::records::LineRecord;
 use rules::records::ParamRecord;
 use rules::records::RouteId;
 use rules::refusal::Cause;
 use rules::refusal::EntryFault;
 use rules::refusal::Refusal;
+use rules::segment::PathSegment;
 use segments::check::ROUTE_LIMIT;
 
 // The most levels of a tree that is made of nests.
@@ -124,6 +130,30 @@ fn part_len<L: KindList>(list: &L, taken: usize) -> usize
     }
 }
 
+// Whether a hook counts: under Static, and not 0.
+fn hook_counts(mode: SsrMode, hook: u16) -> bool
+    ensures { λ r. ⌜ r ≡ (isStatic mode && not (eqb hook 0)) ⌝ }
+{
+    match mode {
+        SsrMode::Static => hook != 0,
+        _ => false,
+    }
+}
+
+// Writes a route's hook at `hooks[h]`, if it counts, and answers where the hooks end then.
+fn put_hook(mode: SsrMode, hook: u16, hooks: &mut [u16], h: usize) -> usize
+    requires { ⌜ h < length (now hooks) ⌝ }
+    ensures end { λ r. ⌜ r ≡ h + length (hookOf mode hook) ⌝ }
+    ensures written { λ _. ⌜ now (hooks .exit) ≡ overwritten (now (hooks .entry)) h (hookOf mode hook) ⌝ }
+{
+    if hook_counts(mode, hook) {
+        hooks[h] = hook;
+        h + 1
+    } else {
+        h
+    }
+}
+
 impl<L: KindList, C: Below> NestedRoute<L, C> {
     // Matches with `keep` of the optional entries kept: takes the list's part, hands what is left on, and writes the route's own
     // records only once all below it has answered.
@@ -202,5 +232,46 @@ pub impl<L: KindList, C: Below> MatchNestedRoutes for NestedRoute<L, C> as Neste
             }
             keep -= 1;
         }
+    }
+
+    fn line_count(&self) -> u64 {
+        self.children.lines_below()
+    }
+
+    fn kept_count(&self, line: u32) -> u64 {
+        let kept = (self.list.optional_count() as u64).saturating_add(1);
+        kept.saturating_mul(self.children.kept_lists_below(line))
+    }
+
+    fn line_at(
+        &self,
+        n: u32,
+        ids: &mut [RouteId],
+        entries: &mut [PathSegment],
+        hooks: &mut [u16],
+        i: usize,
+        e: usize,
+        h: usize,
+    ) -> LineRecord {
+        ids[i] = self.id;
+        let own_entries = self.list.generate(entries, e);
+        let own_hooks = put_hook(self.mode, self.hook, hooks, h);
+        let below = self.children
+            .line_below(n, ids, entries, hooks, i + 1, own_entries, own_hooks);
+        LineRecord {
+            ids: below.ids,
+            entries: below.entries,
+            hooks: below.hooks,
+            mode: self.mode.higher(below.mode),
+        }
+    }
+
+    fn kept_at(&self, line: u32, n: u32, entries: &mut [PathSegment], e: usize) -> usize {
+        let below = self.children.kept_lists_below(line);
+        let dropped = n as u64 / below;
+        let rest = n as u64 % below;
+        let keep = self.list.optional_count() - dropped as usize;
+        let own = self.list.generate_kept(keep, entries, e);
+        self.children.kept_below(line, rest as u32, entries, own)
     }
 }

@@ -4,7 +4,10 @@ ghost use Rattle.rules.proofs.Lawfully.{beside-lawful};
 ghost use Rattle.rules.proofs.Bounded.{enough-beside};
 use crate::tree::MatchNestedRoutes;
 use rules::records::LevelRecord;
+use rules::records::LineRecord;
 use rules::records::ParamRecord;
+use rules::records::RouteId;
+use rules::segment::PathSegment;
 
 // Two trees, the first of which is tried before the second.
 #[derive(Drop)]
@@ -45,6 +48,49 @@ pub impl<A: MatchNestedRoutes, B: MatchNestedRoutes> MatchNestedRoutes for Pair<
         match self.first.match_at(path, at, levels, params, l, p) {
             Some(used) => Some(used),
             None => self.second.match_at(path, at, levels, params, l, p),
+        }
+    }
+
+    fn line_count(&self) -> u64 {
+        self.first
+            .line_count()
+            .saturating_add(self.second.line_count())
+    }
+
+    fn kept_count(&self, line: u32) -> u64 {
+        let count = self.first.line_count();
+        if (line as u64) < count {
+            self.first.kept_count(line)
+        } else {
+            self.second.kept_count(line - count as u32)
+        }
+    }
+
+    fn line_at(
+        &self,
+        n: u32,
+        ids: &mut [RouteId],
+        entries: &mut [PathSegment],
+        hooks: &mut [u16],
+        i: usize,
+        e: usize,
+        h: usize,
+    ) -> LineRecord {
+        let count = self.first.line_count();
+        if (n as u64) < count {
+            self.first.line_at(n, ids, entries, hooks, i, e, h)
+        } else {
+            self.second
+                .line_at(n - count as u32, ids, entries, hooks, i, e, h)
+        }
+    }
+
+    fn kept_at(&self, line: u32, n: u32, entries: &mut [PathSegment], e: usize) -> usize {
+        let count = self.first.line_count();
+        if (line as u64) < count {
+            self.first.kept_at(line, n, entries, e)
+        } else {
+            self.second.kept_at(line - count as u32, n, entries, e)
         }
     }
 }

@@ -2,15 +2,20 @@ ghost use mathlib.Core.Path.{_≡_};
 ghost use mathlib.Core.Bool.{true};
 ghost use Prim.Native.Nat.{_+_, _^_, _<_, _≤_};
 ghost use lib.Dec.{leb};
-ghost use lib.ListN.{length};
+ghost use lib.ListN.{length, getD};
 ghost use denote.Ref.{now};
 ghost use Rattle.rules.specs.Paths.{lawful};
 ghost use Rattle.rules.specs.Forests.{Forest, lawfulForest};
-ghost use Rattle.rules.specs.KeptLists.{kept};
+ghost use Rattle.rules.specs.KeptLists.{kept, ofLine, noList};
 ghost use Rattle.rules.specs.Bounds.{Bounds, Enough};
-ghost use Rattle.rules.specs.Steps.{firstRead, Matched, reaches};
+ghost use Rattle.rules.specs.Lines.{lines, noLine};
+ghost use Rattle.rules.specs.Numbers.{capped};
+ghost use Rattle.rules.specs.Steps.{firstRead, Matched, reaches, GivenOut, KeptOut};
 use rules::records::LevelRecord;
+use rules::records::LineRecord;
 use rules::records::ParamRecord;
+use rules::records::RouteId;
+use rules::segment::PathSegment;
 
 // A tree of routes. Its meaning is an ordered list of routes.
 pub trait MatchNestedRoutes {
@@ -55,4 +60,37 @@ pub trait MatchNestedRoutes {
         requires deep { ⌜ l + bounds (now self) .levels ≤ length (now levels) ⌝ }
         requires wide { ⌜ p + bounds (now self) .entries ≤ length (now params) ⌝ }
         ensures { λ r. ⌜ Matched (firstRead (kept (routes (now (self .entry)))) l at (now (path .entry))) l p r (now (levels .entry)) (now (levels .exit)) (now (params .entry)) (now (params .exit)) ⌝ };
+
+    // How many lines there are, or the largest number where there are more.
+    fn line_count(&self) -> u64
+        ensures { λ r. ⌜ r ≡ capped (length (lines (routes (now (self .entry))))) ⌝ };
+
+    // How many kept lists a line has, likewise; none where there is no such line.
+    fn kept_count(&self, line: u32) -> u64
+        ensures { λ r. ⌜ r ≡ capped (length (ofLine line (kept (routes (now (self .entry)))))) ⌝ };
+
+    // A step of `generate_routes`: writes a line by its number from `ids[i]`, `entries[e]` and `hooks[h]` on, and answers where it
+    // ends, with its mode.
+    fn line_at(
+        &self,
+        n: u32,
+        ids: &mut [RouteId],
+        entries: &mut [PathSegment],
+        hooks: &mut [u16],
+        i: usize,
+        e: usize,
+        h: usize,
+    ) -> LineRecord
+        requires there { ⌜ n < length (lines (routes (now self))) ⌝ }
+        requires deep { ⌜ i + bounds (now self) .levels ≤ length (now ids) ⌝ }
+        requires wide { ⌜ e + bounds (now self) .entries ≤ length (now entries) ⌝ }
+        requires hooked { ⌜ h + bounds (now self) .levels ≤ length (now hooks) ⌝ }
+        ensures { λ r. ⌜ GivenOut (getD (lines (routes (now (self .entry)))) n noLine) i e h r (now (ids .entry)) (now (ids .exit)) (now (entries .entry)) (now (entries .exit)) (now (hooks .entry)) (now (hooks .exit)) ⌝ };
+
+    // A step of `generate_kept`: writes the entries of a line's kept list by its number from `entries[e]` on, and answers where
+    // they end.
+    fn kept_at(&self, line: u32, n: u32, entries: &mut [PathSegment], e: usize) -> usize
+        requires there { ⌜ n < length (ofLine line (kept (routes (now self)))) ⌝ }
+        requires wide { ⌜ e + bounds (now self) .entries ≤ length (now entries) ⌝ }
+        ensures { λ r. ⌜ KeptOut (getD (ofLine line (kept (routes (now (self .entry))))) n noList .routes) e r (now (entries .entry)) (now (entries .exit)) ⌝ };
 }
