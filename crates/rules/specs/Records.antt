@@ -41,6 +41,10 @@ recordOf (param x) = recordWith Param x
 recordOf (optional x) = recordWith OptionalParam x
 recordOf (splat x) = recordWith Splat x
 
+-- what an unused record holds
+abbrev pub zeroSegment : PathSegment
+zeroSegment = recordWith AUnit []
+
 -- the records of some entries
 abbrev pub recordsOf : List Entry → List PathSegment
 recordsOf [] = []

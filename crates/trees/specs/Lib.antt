@@ -1,3 +1,4 @@
 pub mod Routed
+pub mod Lined
 pub mod Making
 pub mod Paths

@@ -1,10 +1,12 @@
 -- WHAT match_route ANSWERS, and what it leaves in its record buffers.
 use mathlib.Core.Path.{_≡_}
 use mathlib.Core.List.{List}
-use mathlib.Core.Bool.{true, false}
+use mathlib.Core.Bool.{true, false, _&&_}
 use mathlib.Core.Logic.{_⊎_}
 use Prim.Native.Nat.{ℕ, _<_, _≤_}
 use lib.ListN.{length, replicate}
+use Rattle.std.specs.declared.option.Option.{Option}
+use Rattle.std.specs.declared.option.Option.the-variants.{Some, None}
 use Rattle.rules.specs.declared.records.LevelRecord.{LevelRecord}
 use Rattle.rules.specs.declared.records.ParamRecord.{ParamRecord}
 use Rattle.rules.specs.Paths.{longestPath, rooted, lawful}
@@ -13,7 +15,7 @@ use Rattle.rules.specs.KeptLists.{kept}
 use Rattle.rules.specs.Bounds.{Bounds}
 use Rattle.rules.specs.Answers.{Answer}
 use Rattle.rules.specs.Admission.{FirstAnswer, NoneSpelled}
-use Rattle.rules.specs.Records.{zeroLevel, zeroParam, padded}
+use Rattle.rules.specs.Records.{zeroLevel, zeroParam, padded, overwritten}
 use Rattle.rules.specs.Refusals.{Told, answered, refused, bare}
 use Rattle.rules.specs.Steps.{reaches}
 
@@ -36,3 +38,10 @@ pub record Routed (f : Forest) (b : Bounds) (p : List ℕ) (ls : List LevelRecor
   pub declined : lawful p ≡ true → reaches b (length ls) (length ps) ≡ true → NoneSpelled p (kept f) → Leaves t ls′ ps′ (refused (4, bare)) (replicate (length ls) zeroLevel) (replicate (length ps) zeroParam)
   -- on a lawful path it is the one or the other
   pub decided : lawful p ≡ true → ((a : Answer) × FirstAnswer (kept f) p a) ⊎ NoneSpelled p (kept f)
+
+-- Nested f b p ls ps r ls′ ps′: what a tree's own match answers, without a refusal: how many records are in use, or nothing.
+pub record Nested (f : Forest) (b : Bounds) (p : List ℕ) (ls : List LevelRecord) (ps : List ParamRecord) (r : Option (ℕ × ℕ)) (ls′ : List LevelRecord) (ps′ : List ParamRecord) : Type 0 where
+  -- an unlawful path, or short buffers
+  pub unfit : (lawful p && reaches b (length ls) (length ps)) ≡ false → (r ≡ None) × (ls′ ≡ ls) × (ps′ ≡ ps)
+  pub admitted : lawful p ≡ true → reaches b (length ls) (length ps) ≡ true → (a : Answer) → FirstAnswer (kept f) p a → (r ≡ Some (length (a .levels), length (a .params))) × (ls′ ≡ overwritten ls 0 (a .levels)) × (ps′ ≡ overwritten ps 0 (a .params))
+  pub declined : lawful p ≡ true → reaches b (length ls) (length ps) ≡ true → NoneSpelled p (kept f) → (r ≡ None) × (ls′ ≡ ls) × (ps′ ≡ ps)

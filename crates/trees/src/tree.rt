@@ -10,12 +10,17 @@ ghost use Rattle.rules.specs.KeptLists.{kept, ofLine, noList};
 ghost use Rattle.rules.specs.Bounds.{Bounds, Enough};
 ghost use Rattle.rules.specs.Lines.{lines, noLine};
 ghost use Rattle.rules.specs.Numbers.{capped};
+ghost use Rattle.rules.specs.Refusals.{told};
+ghost use Rattle.trees.specs.Routed.{Nested};
+ghost use Rattle.trees.specs.Lined.{Lined, KeptGiven};
 ghost use Rattle.rules.specs.Steps.{firstRead, Matched, reaches, GivenOut, KeptOut};
 use rules::records::LevelRecord;
 use rules::records::LineRecord;
 use rules::records::ParamRecord;
 use rules::records::RouteId;
+use rules::refusal::Refusal;
 use rules::segment::PathSegment;
+use segments::path::is_lawful;
 
 // A tree of routes. Its meaning is an ordered list of routes.
 pub trait MatchNestedRoutes {
@@ -42,6 +47,73 @@ pub trait MatchNestedRoutes {
         ensures { λ r. ⌜ r ≡ reaches (bounds (now (self .entry))) levels params ⌝ }
     {
         self.fits_levels(levels) && self.fits_entries(params)
+    }
+
+    // The answer of the first kept list that `path` spells, from the start of both buffers, and how many records it has; or none.
+    // It changes nothing where the path is not lawful, the buffers are too short, or no kept list is spelled.
+    fn match_nested(
+        &self,
+        path: &[u8],
+        levels: &mut [LevelRecord],
+        params: &mut [ParamRecord],
+    ) -> Option<(usize, usize)>
+        ensures { λ r. ⌜ Nested (routes (now (self .entry))) (bounds (now (self .entry))) (now (path .entry)) (now (levels .entry)) (now (params .entry)) r (now (levels .exit)) (now (params .exit)) ⌝ }
+    {
+        if is_lawful(path) && self.fits(levels.len(), params.len()) {
+            self.match_at(path, 0, levels, params, 0, 0)
+        } else {
+            None
+        }
+    }
+
+    // A line by its number: its ids, entries and hooks from the start of the buffers, zero records behind them, how many there are,
+    // and its mode. Refusal 3 where a buffer is too short, and 13 where there is no such line.
+    fn generate_routes(
+        &self,
+        n: u32,
+        ids: &mut [RouteId],
+        entries: &mut [PathSegment],
+        hooks: &mut [u16],
+    ) -> Result<LineRecord, Refusal>
+        ensures { λ r. ⌜ Lined (routes (now (self .entry))) (bounds (now (self .entry))) n (now (ids .entry)) (now (entries .entry)) (now (hooks .entry)) (told r) (now (ids .exit)) (now (entries .exit)) (now (hooks .exit)) ⌝ }
+    {
+        if !self.fits_levels(ids.len())
+            || !self.fits_levels(hooks.len())
+            || !self.fits_entries(entries.len())
+        {
+            return Err(Refusal::ShortOut);
+        }
+        if n as u64 >= self.line_count() {
+            return Err(Refusal::NoLine);
+        }
+        ids.fill(0);
+        entries.fill(PathSegment::ZERO);
+        hooks.fill(0);
+        Ok(self.line_at(n, ids, entries, hooks, 0, 0, 0))
+    }
+
+    // A line's kept list by the numbers of the line and its own: its entries from the start of the buffer, zero records behind them,
+    // and how many there are. Refusal 3 where the buffer is too short, 13 where there is no such line, and 15 where it has no such
+    // kept list.
+    fn generate_kept(
+        &self,
+        line: u32,
+        n: u32,
+        entries: &mut [PathSegment],
+    ) -> Result<usize, Refusal>
+        ensures { λ r. ⌜ KeptGiven (routes (now (self .entry))) (bounds (now (self .entry))) line n (now (entries .entry)) (told r) (now (entries .exit)) ⌝ }
+    {
+        if !self.fits_entries(entries.len()) {
+            return Err(Refusal::ShortOut);
+        }
+        if line as u64 >= self.line_count() {
+            return Err(Refusal::NoLine);
+        }
+        if n as u64 >= self.kept_count(line) {
+            return Err(Refusal::NoVariant);
+        }
+        entries.fill(PathSegment::ZERO);
+        Ok(self.kept_at(line, n, entries, 0))
     }
 
     // A step of `match_route`: finds the first kept list that `path`, which starts at `at`, spells, writes its records from
