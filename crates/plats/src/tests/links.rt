@@ -1,6 +1,4 @@
 // The firm's links.
-use crate::tests::outcome::OutcomeDebug;
-use crate::tests::outcome::OutcomePartialEq;
 use crate::tests::outcome::admitted;
 use crate::tests::outcome::check_links;
 use crate::tests::outcome::declined;

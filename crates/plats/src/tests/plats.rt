@@ -17,7 +17,6 @@ use segments::param_segments::OptionalParamKind;
 use segments::param_segments::OptionalParamSegment;
 use segments::param_segments::ParamKind;
 use segments::param_segments::ParamSegment;
-use segments::record::record_of;
 use std::test::*;
 use trees::below::NothingBelow;
 use trees::nested_route::NestedRoute;
@@ -78,7 +77,11 @@ fn plat_reads() -> Result<(), Fail> {
 // What it gives out, and what follows for it by the trait's own bodies.
 #[test]
 fn plat_is_given_out() -> Result<(), Fail> {
-    let record = record_of(SegmentKind::Static, b"replat");
+    let record = PathSegment {
+        kind: SegmentKind::Static,
+        len: 6,
+        text: *b"replat\0\0\0\0\0\0\0\0\0\0\0\0\0\0\0\0\0\0",
+    };
     let mut path = [PathSegment::ZERO; 2];
     check_eq(REPLAT.generate_path(&mut path, 2), 1)?;
     check_eq(path, [PathSegment::ZERO; 2])?;
