@@ -23,8 +23,8 @@ abbrev pub firm : Forest
 firm =
     nest (plain 1 (optional (codes "client") ∷ []))
     (nest (plain 2 (static (codes "parcel") ∷ []))
-      (leaf (plain 3 (static (codes "plan") ∷ [])) (leaf (plain 4 (param (codes "lot") ∷ [])) none))
-      none)
+    (leaf (plain 3 (static (codes "plan") ∷ [])) (leaf (plain 4 (param (codes "lot") ∷ [])) none))
+    none)
     (leaf (plain 5 (static (codes "job") ∷ (optional (codes "year") ∷ (optional (codes "sheet") ∷ [])))) none)
 
 -- the answer 0 is that of the first kept list that the link spells; 2 is told of an unrooted link, and 4 where none is spelled

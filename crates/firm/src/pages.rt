@@ -11,6 +11,7 @@ use lists::chain::ChainList;
 use lists::chain::End;
 use lists::chain::EndList;
 use lists::kinds;
+use rules::records::RouteId;
 use rules::refusal::Refusal;
 use segments::param_segments::OptionalParamKind;
 use segments::param_segments::OptionalParamSegment;
@@ -27,14 +28,23 @@ use trees::pair::Pair;
 use trees::pair::PairRoutes;
 
 pub type PlanPage = NestedRoute<Chain<StaticSegment<Plan>, End>, Childless>;
+
 pub type LotPage = NestedRoute<Chain<ParamSegment, End>, Childless>;
+
 pub type ParcelPages = NestedRoute<Chain<StaticSegment<Parcel>, End>, Pair<PlanPage, LotPage>>;
+
 pub type ClientPages = NestedRoute<Chain<OptionalParamSegment, End>, ParcelPages>;
-pub type JobPage = NestedRoute<Chain<StaticSegment<Job>, Chain<OptionalParamSegment, Chain<OptionalParamSegment, End>>>, Childless>;
+
+pub type JobPage = NestedRoute<
+    Chain<StaticSegment<Job>, Chain<OptionalParamSegment, Chain<OptionalParamSegment, End>>>,
+    Childless,
+>;
+
 pub type Pages = Pair<ClientPages, JobPage>;
 
 // As many records as any of its answers needs.
 pub const LEVELS: usize = 3;
+
 pub const ENTRIES: usize = 3;
 
 pub fn pages() -> Result<Pages, Refusal> {
@@ -52,4 +62,15 @@ pub fn pages() -> Result<Pages, Refusal> {
         first: client,
         second: job,
     })
+}
+
+// What a parameter of a page stands for, by its route and its entry's number there.
+pub fn name_of(id: RouteId, entry: usize) -> &'static str {
+    match (id, entry) {
+        (1, 0) => "client",
+        (4, 0) => "lot",
+        (5, 1) => "year",
+        (5, 2) => "sheet",
+        _ => "value",
+    }
 }

@@ -16,6 +16,7 @@ pub struct LinkRow {
 
 // How many rows there are, and how many of them are admitted: these come first.
 pub const ROWS: usize = 13;
+
 const ADMITTED: usize = 7;
 
 macro_rules! level {
@@ -45,13 +46,55 @@ fn admitted_row(n: usize) -> LinkRow
     ensures { λ r. ⌜ Stands (now (r .link)) (r .refusal) (take (r .«level_count») (r .levels)) (take (r .«param_count») (r .params)) ⌝ }
 {
     match n {
-        0 => admitted!(b"/hill/parcel/plan", [level!(1, 0, 5), level!(2, 5, 7), level!(3, 12, 5)], 3, [param!(0, 0, 1, 4), param!(0, 0, 0, 0)], 1),
-        1 => admitted!(b"/parcel/plan", [level!(1, 0, 0), level!(2, 0, 7), level!(3, 7, 5)], 3, [param!(0, 0, 0, 0), param!(0, 0, 0, 0)], 0),
-        2 => admitted!(b"/parcel/plan/", [level!(1, 0, 0), level!(2, 0, 7), level!(3, 7, 5)], 3, [param!(0, 0, 0, 0), param!(0, 0, 0, 0)], 0),
-        3 => admitted!(b"/parcel/12", [level!(1, 0, 0), level!(2, 0, 7), level!(4, 7, 3)], 3, [param!(2, 0, 8, 2), param!(0, 0, 0, 0)], 1),
-        4 => admitted!(b"/job/parcel/12", [level!(1, 0, 4), level!(2, 4, 7), level!(4, 11, 3)], 3, [param!(0, 0, 1, 3), param!(2, 0, 12, 2)], 2),
-        5 => admitted!(b"/job", [level!(5, 0, 4), level!(0, 0, 0), level!(0, 0, 0)], 1, [param!(0, 0, 0, 0), param!(0, 0, 0, 0)], 0),
-        _ => admitted!(b"/job/2019", [level!(5, 0, 9), level!(0, 0, 0), level!(0, 0, 0)], 1, [param!(0, 1, 5, 4), param!(0, 0, 0, 0)], 1),
+        0 => admitted!(
+            b"/hill/parcel/plan",
+            [level!(1, 0, 5), level!(2, 5, 7), level!(3, 12, 5)],
+            3,
+            [param!(0, 0, 1, 4), param!(0, 0, 0, 0)],
+            1
+        ),
+        1 => admitted!(
+            b"/parcel/plan",
+            [level!(1, 0, 0), level!(2, 0, 7), level!(3, 7, 5)],
+            3,
+            [param!(0, 0, 0, 0), param!(0, 0, 0, 0)],
+            0
+        ),
+        2 => admitted!(
+            b"/parcel/plan/",
+            [level!(1, 0, 0), level!(2, 0, 7), level!(3, 7, 5)],
+            3,
+            [param!(0, 0, 0, 0), param!(0, 0, 0, 0)],
+            0
+        ),
+        3 => admitted!(
+            b"/parcel/12",
+            [level!(1, 0, 0), level!(2, 0, 7), level!(4, 7, 3)],
+            3,
+            [param!(2, 0, 8, 2), param!(0, 0, 0, 0)],
+            1
+        ),
+        4 => admitted!(
+            b"/job/parcel/12",
+            [level!(1, 0, 4), level!(2, 4, 7), level!(4, 11, 3)],
+            3,
+            [param!(0, 0, 1, 3), param!(2, 0, 12, 2)],
+            2
+        ),
+        5 => admitted!(
+            b"/job",
+            [level!(5, 0, 4), level!(0, 0, 0), level!(0, 0, 0)],
+            1,
+            [param!(0, 0, 0, 0), param!(0, 0, 0, 0)],
+            0
+        ),
+        _ => admitted!(
+            b"/job/2019",
+            [level!(5, 0, 9), level!(0, 0, 0), level!(0, 0, 0)],
+            1,
+            [param!(0, 1, 5, 4), param!(0, 0, 0, 0)],
+            1
+        ),
     }
 }
 
