@@ -2,4 +2,6 @@
 
 pub mod pages;
 pub mod table;
+#[cfg(test)]
+mod tests;
 pub mod texts;

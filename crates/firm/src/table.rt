@@ -20,7 +20,9 @@ pub const ROWS: usize = 13;
 const ADMITTED: usize = 7;
 
 macro_rules! level {
-    ($id:expr, $start:expr, $len:expr) => { LevelRecord { id: $id, start: $start, len: $len } };
+    ($id:expr, $start:expr, $len:expr) => {
+        LevelRecord { id: $id, start: $start, len: $len }
+    };
 }
 
 macro_rules! param {
@@ -29,15 +31,30 @@ macro_rules! param {
     };
 }
 
+// A row of up to three levels and two parameters, with how many there are of each; the others are zero.
 macro_rules! admitted {
-    ($link:expr, [$a:expr, $b:expr, $c:expr], $levels:expr, [$p:expr, $q:expr], $params:expr) => {
-        LinkRow { link: $link, refusal: 0, levels: [$a, $b, $c], level_count: $levels, params: [$p, $q, param!(0, 0, 0, 0)], param_count: $params }
+    ($link:literal => $levels:literal $a:tt $b:tt $c:tt; $params:literal $p:tt $q:tt) => {
+        LinkRow {
+            link: $link,
+            refusal: 0,
+            levels: [level! $a, level! $b, level! $c],
+            level_count: $levels,
+            params: [param! $p, param! $q, ParamRecord::ZERO],
+            param_count: $params,
+        }
     };
 }
 
 macro_rules! declined {
     ($link:expr, $refusal:expr) => {
-        LinkRow { link: $link, refusal: $refusal, levels: [level!(0, 0, 0); 3], level_count: 0, params: [param!(0, 0, 0, 0); 3], param_count: 0 }
+        LinkRow {
+            link: $link,
+            refusal: $refusal,
+            levels: [LevelRecord::ZERO; 3],
+            level_count: 0,
+            params: [ParamRecord::ZERO; 3],
+            param_count: 0,
+        }
     };
 }
 
@@ -46,55 +63,19 @@ fn admitted_row(n: usize) -> LinkRow
     ensures { λ r. ⌜ Stands (now (r .link)) (r .refusal) (take (r .«level_count») (r .levels)) (take (r .«param_count») (r .params)) ⌝ }
 {
     match n {
-        0 => admitted!(
-            b"/hill/parcel/plan",
-            [level!(1, 0, 5), level!(2, 5, 7), level!(3, 12, 5)],
-            3,
-            [param!(0, 0, 1, 4), param!(0, 0, 0, 0)],
-            1
-        ),
-        1 => admitted!(
-            b"/parcel/plan",
-            [level!(1, 0, 0), level!(2, 0, 7), level!(3, 7, 5)],
-            3,
-            [param!(0, 0, 0, 0), param!(0, 0, 0, 0)],
-            0
-        ),
-        2 => admitted!(
-            b"/parcel/plan/",
-            [level!(1, 0, 0), level!(2, 0, 7), level!(3, 7, 5)],
-            3,
-            [param!(0, 0, 0, 0), param!(0, 0, 0, 0)],
-            0
-        ),
-        3 => admitted!(
-            b"/parcel/12",
-            [level!(1, 0, 0), level!(2, 0, 7), level!(4, 7, 3)],
-            3,
-            [param!(2, 0, 8, 2), param!(0, 0, 0, 0)],
-            1
-        ),
-        4 => admitted!(
-            b"/job/parcel/12",
-            [level!(1, 0, 4), level!(2, 4, 7), level!(4, 11, 3)],
-            3,
-            [param!(0, 0, 1, 3), param!(2, 0, 12, 2)],
-            2
-        ),
-        5 => admitted!(
-            b"/job",
-            [level!(5, 0, 4), level!(0, 0, 0), level!(0, 0, 0)],
-            1,
-            [param!(0, 0, 0, 0), param!(0, 0, 0, 0)],
-            0
-        ),
-        _ => admitted!(
-            b"/job/2019",
-            [level!(5, 0, 9), level!(0, 0, 0), level!(0, 0, 0)],
-            1,
-            [param!(0, 1, 5, 4), param!(0, 0, 0, 0)],
-            1
-        ),
+        0 =>
+            admitted!(b"/hill/parcel/plan" => 3 (1, 0, 5) (2, 5, 7) (3, 12, 5); 1 (0, 0, 1, 4) (0, 0, 0, 0)),
+        1 =>
+            admitted!(b"/parcel/plan" => 3 (1, 0, 0) (2, 0, 7) (3, 7, 5); 0 (0, 0, 0, 0) (0, 0, 0, 0)),
+        2 =>
+            admitted!(b"/parcel/plan/" => 3 (1, 0, 0) (2, 0, 7) (3, 7, 5); 0 (0, 0, 0, 0) (0, 0, 0, 0)),
+        3 =>
+            admitted!(b"/parcel/12" => 3 (1, 0, 0) (2, 0, 7) (4, 7, 3); 1 (2, 0, 8, 2) (0, 0, 0, 0)),
+        4 =>
+            admitted!(b"/job/parcel/12" => 3 (1, 0, 4) (2, 4, 7) (4, 11, 3); 2 (0, 0, 1, 3) (2, 0, 12, 2)),
+        5 => admitted!(b"/job" => 1 (5, 0, 4) (0, 0, 0) (0, 0, 0); 0 (0, 0, 0, 0) (0, 0, 0, 0)),
+        _ =>
+            admitted!(b"/job/2019" => 1 (5, 0, 9) (0, 0, 0) (0, 0, 0); 1 (0, 1, 5, 4) (0, 0, 0, 0)),
     }
 }
 

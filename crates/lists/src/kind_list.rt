@@ -7,10 +7,10 @@ ghost use denote.Ref.{now};
 ghost use Rattle.std.specs.Options.{isSome};
 ghost use Rattle.rules.specs.Paths.{lawful};
 ghost use Rattle.rules.specs.Entries.{Entry, lawfulEntries};
-ghost use Rattle.rules.specs.Keeping.{optionals, keptFrom};
+ghost use Rattle.rules.specs.Keeping.{optionals, keptFrom, hasOptional};
 ghost use Rattle.rules.specs.Numbers.{capped};
 ghost use Rattle.rules.specs.Records.{recordsOf, overwritten};
-ghost use Rattle.rules.specs.Steps.{keptEntries, hasBare, hasOptional, listTakes, listReads, readInto, roomAfter};
+ghost use Rattle.rules.specs.Steps.{keptEntries, hasBare, listTakes, listReads, readInto, roomAfter};
 use rules::records::ParamRecord;
 use rules::segment::PathSegment;
 

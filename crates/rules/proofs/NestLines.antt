@@ -8,12 +8,11 @@ use Prim.Native.Nat.{ℕ, zero, suc, _+_, _-_, _*_, _/_, _%_, _^_, _<_, _≤_, m
 use native.Mathlib.Omega.{arith}
 use native.Mathlib.Nat.{div-eq-of-lt, mod-eq-of-lt, mod-lt, mul-zero, div-lt-iff-lt-mul}
 use lib.ListN.{length, getD, length-append}
-use Rattle.std.proofs.shelf.Tests.{cases-lt, cases-eq}
+use Rattle.std.proofs.shelf.Tests.{cases-lt}
 use Rattle.rules.specs.declared.segment.PathSegment.{PathSegment}
-use Rattle.rules.specs.Entries.{Entry}
-use Rattle.rules.specs.Keeping.{optionals, keptFrom, plainly}
+use Rattle.rules.specs.Keeping.{optionals}
 use Rattle.rules.specs.Forests.{Route}
-use Rattle.rules.specs.KeptLists.{childless, KeptRoute, KeptList, keeping, put, eachKeeping, keptOver, ofLine, noList, entriesOf}
+use Rattle.rules.specs.KeptLists.{childless, KeptRoute, KeptList, keeping, keptOver, ofLine, noList, entriesOf}
 use Rattle.rules.specs.Numbers.{capped}
 use Rattle.rules.specs.Records.{recordsOf, overwritten}
 use Rattle.rules.specs.Steps.{keptEntries, KeptOut}

@@ -1,13 +1,12 @@
 -- The lines and kept lists of one tree beside another, by their numbers.
 use mathlib.Core.Path.{_≡_, refl, sym, ap, _∙_}
-use mathlib.Core.List.{List, _++_}
-use Prim.Native.Nat.{ℕ, _+_, _-_, _<_, _≤_}
+use Prim.Native.Nat.{ℕ, _-_, _<_, _≤_}
 use native.Mathlib.Omega.{arith}
 use lib.ListN.{length, getD, length-append}
 use Rattle.std.proofs.shelf.Lists.{getD-append-left, getD-append-right}
 use Rattle.rules.specs.Forests.{Forest, beside}
-use Rattle.rules.specs.Lines.{Line, noLine, lines}
-use Rattle.rules.specs.KeptLists.{KeptRoute, kept, ofLine, noList}
+use Rattle.rules.specs.Lines.{noLine, lines}
+use Rattle.rules.specs.KeptLists.{kept, ofLine, noList}
 use Rattle.rules.specs.Numbers.{capped}
 use Rattle.rules.proofs.Capped.{below-capped, past-capped}
 use Rattle.rules.proofs.LinesMore.{lines-beside}

@@ -1,4 +1,6 @@
 -- BOUNDS: how many records the answers of a forest may need.
+use mathlib.Core.Bool.{Bool, _&&_}
+use lib.Dec.{leb}
 use mathlib.Core.List.{List, [], _∷_}
 use Prim.Native.Nat.{ℕ, _+_, _≤_, max}
 use lib.ListN.{length}
@@ -34,3 +36,7 @@ boundsOf (nest r k f) = larger (levelOver (length (r .entries)) (boundsOf k)) (b
 pub record Enough (f : Forest) (b : Bounds) : Type 0 where
   pub levels : boundsOf f .levels ≤ b .levels
   pub entries : boundsOf f .entries ≤ b .entries
+
+-- whether buffers of these lengths reach some bounds
+abbrev pub reaches : Bounds → ℕ → ℕ → Bool
+reaches b levels params = leb (b .levels) levels && leb (b .entries) params

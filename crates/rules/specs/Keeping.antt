@@ -1,6 +1,6 @@
 -- KEEPING: a route keeps its first n OptionalParams as Param and drops the others.
 use mathlib.Core.List.{List, [], _∷_}
-use mathlib.Core.Bool.{Bool, true, false, cond}
+use mathlib.Core.Bool.{Bool, true, false, cond, _||_}
 use Prim.Native.Nat.{ℕ, zero, suc, _+_}
 use Rattle.std.specs.declared.option.Option.{Option}
 use Rattle.std.specs.declared.option.Option.the-variants.{Some, None}
@@ -10,6 +10,11 @@ use Rattle.rules.specs.Entries.{Entry, unit, static, param, optional, splat, i
 abbrev pub optionals : List Entry → ℕ
 optionals [] = 0
 optionals (e ∷ es) = cond (isOptional e) (optionals es + 1) (optionals es)
+
+-- whether there is one
+abbrev pub hasOptional : List Entry → Bool
+hasOptional [] = false
+hasOptional (e ∷ es) = isOptional e || hasOptional es
 
 -- an entry where it is kept
 abbrev pub asKept : Entry → Entry

@@ -2,7 +2,7 @@
 -- kept list that the path spells, and nothing just where none is spelled, is proved of them (Admission, `ReaderAdmits`).
 use mathlib.Core.Path.{_≡_}
 use mathlib.Core.List.{List, [], _∷_, _++_}
-use mathlib.Core.Bool.{Bool, true, false, cond, _&&_, _||_}
+use mathlib.Core.Bool.{Bool, true, false, cond, _||_}
 use Prim.Native.Nat.{ℕ, _+_, _-_}
 use lib.Dec.{leb}
 use lib.ListN.{length, drop}
@@ -17,7 +17,6 @@ use Rattle.rules.specs.Entries.{Entry, isOptional, isBare, hasValue}
 use Rattle.rules.specs.Taking.{Taken, nothing, taking}
 use Rattle.rules.specs.Keeping.{asKept, stillKept, keepOrDrop, Numbered}
 use Rattle.rules.specs.KeptLists.{KeptRoute, KeptList, entriesOf}
-use Rattle.rules.specs.Bounds.{Bounds}
 use Rattle.rules.specs.Answers.{Answer, noRecords, anyBare, partLength}
 use Rattle.rules.specs.Records.{overwritten, recordsOf}
 use Rattle.rules.specs.Lines.{Line}
@@ -53,10 +52,6 @@ keptEntries n (e ∷ es) = keepOrDrop (stillKept (isOptional e) n) (keptEntries 
 abbrev pub hasBare : List Entry → Bool
 hasBare [] = false
 hasBare (e ∷ es) = isBare e || hasBare es
-
-abbrev pub hasOptional : List Entry → Bool
-hasOptional [] = false
-hasOptional (e ∷ es) = isOptional e || hasOptional es
 
 -- how many bytes and values a list takes
 abbrev pub addTaken : Taken → Bool → Option (ℕ × ℕ) → Option (ℕ × ℕ)
@@ -124,10 +119,6 @@ pub record Matched (o : Option Answer) (l p : ℕ) (r : Option (ℕ × ℕ)) (ls
 -- what is left of some room behind n records
 abbrev pub roomAfter : ℕ → ℕ → Option ℕ
 roomAfter n room = cond (leb n room) (Some (room - n)) None
-
--- whether buffers of these lengths reach some bounds
-abbrev pub reaches : Bounds → ℕ → ℕ → Bool
-reaches b levels params = leb (b .levels) levels && leb (b .entries) params
 
 -- what giving out a line leaves in the buffers, from the records i, e and h on, and where it ends
 pub record GivenOut (l : Line) (i e h : ℕ) (r : LineRecord) (is is′ : List ℕ) (es es′ : List PathSegment) (hs hs′ : List ℕ) : Type 0 where

@@ -1,15 +1,15 @@
 -- What the calls that give out lines and kept lists leave, from what their steps leave.
-use mathlib.Core.Path.{_≡_, refl, sym, ap, subst, _∙_}
-use mathlib.Core.List.{List, _++_}
-use mathlib.Core.Bool.{Bool, true, false, _&&_}
-use Prim.Native.Nat.{ℕ, _+_, _-_, _<_, _≤_}
+use mathlib.Core.Path.{_≡_, sym, ap, subst, _∙_}
+use mathlib.Core.List.{List}
+use mathlib.Core.Bool.{true, _&&_}
+use Prim.Native.Nat.{ℕ, _+_, _-_, _<_}
 use native.Mathlib.Omega.{arith}
 use native.Mathlib.Nat.{zero-add}
 use lib.Dec.{leb}
 use lib.ListN.{length, getD, replicate}
 use Rattle.std.proofs.shelf.Tests.{both-ways, and-from}
 use Rattle.std.specs.declared.option.Option.{Option}
-use Rattle.std.specs.declared.option.Option.the-variants.{Some, None}
+use Rattle.std.specs.declared.option.Option.the-variants.{Some}
 use Rattle.rules.specs.declared.segment.PathSegment.{PathSegment}
 use Rattle.rules.specs.declared.records.LineRecord.{LineRecord}
 use Rattle.rules.specs.declared.records.LevelRecord.{LevelRecord}
@@ -18,12 +18,10 @@ use Rattle.rules.specs.Paths.{lawful}
 use Rattle.rules.specs.Forests.{Forest}
 use Rattle.rules.specs.Lines.{Line, noLine, lines}
 use Rattle.rules.specs.KeptLists.{kept, ofLine, noList, entriesOf}
-use Rattle.rules.specs.Bounds.{Bounds}
+use Rattle.rules.specs.Bounds.{Bounds, reaches}
 use Rattle.rules.specs.Records.{recordsOf, zeroSegment, padded, overwritten}
 use Rattle.rules.specs.Refusals.{answered}
-use Rattle.rules.specs.Answers.{Answer}
-use Rattle.rules.specs.Admission.{FirstAnswer, NoneSpelled}
-use Rattle.rules.specs.Steps.{firstRead, Matched, inUse, levelsAfter, paramsAfter, reaches, GivenOut, KeptOut}
+use Rattle.rules.specs.Steps.{firstRead, Matched, inUse, levelsAfter, paramsAfter, GivenOut, KeptOut}
 use Rattle.rules.proofs.Admitted.{reader-admits}
 use Rattle.rules.proofs.Buffers.{overwritten-zeros}
 use Rattle.trees.specs.Lined.{holdsLine, lineRecord, LineLeft, Lined, KeptGiven}

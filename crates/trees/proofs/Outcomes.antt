@@ -20,12 +20,12 @@ use Rattle.rules.specs.declared.refusal.Refusal.the-variants.{LongPath, Unroote
 use Rattle.rules.specs.Paths.{longestPath, rooted, lawful}
 use Rattle.rules.specs.Forests.{Forest}
 use Rattle.rules.specs.KeptLists.{kept}
-use Rattle.rules.specs.Bounds.{Bounds}
+use Rattle.rules.specs.Bounds.{Bounds, reaches}
 use Rattle.rules.specs.Answers.{Answer}
 use Rattle.rules.specs.Admission.{FirstAnswer, NoneSpelled}
 use Rattle.rules.specs.Records.{zeroLevel, zeroParam, padded, overwritten}
 use Rattle.rules.specs.Refusals.{answered, refused, bare}
-use Rattle.rules.specs.Steps.{firstRead, levelsAfter, paramsAfter, Matched, reaches}
+use Rattle.rules.specs.Steps.{firstRead, levelsAfter, paramsAfter, Matched}
 use Rattle.rules.proofs.Admitted.{reader-admits}
 use Rattle.rules.proofs.Buffers.{overwritten-zeros}
 use Rattle.rules.proofs.MatchMore.{used, unused}

@@ -8,7 +8,7 @@ use Rattle.rules.specs.declared.refusal.Cause.the-variants.{Count}
 use Rattle.rules.specs.Entries.{Entry}
 use Rattle.rules.specs.Forests.{Route, routeOf, Forest}
 use Rattle.rules.specs.Bounds.{Bounds}
-use Rattle.rules.specs.Steps.{hasOptional}
+use Rattle.rules.specs.Keeping.{hasOptional}
 use Rattle.rules.specs.declared.mode.SsrMode.the-variants.{OutOfOrder}
 use Rattle.rules.specs.Places.{routeLimit}
 use Rattle.rules.specs.Refusals.{Told, answered, refused, bare, entry}

@@ -12,12 +12,11 @@ use Rattle.rules.specs.declared.records.ParamRecord.{ParamRecord}
 use Rattle.rules.specs.Paths.{longestPath, rooted, lawful}
 use Rattle.rules.specs.Forests.{Forest}
 use Rattle.rules.specs.KeptLists.{kept}
-use Rattle.rules.specs.Bounds.{Bounds}
+use Rattle.rules.specs.Bounds.{Bounds, reaches}
 use Rattle.rules.specs.Answers.{Answer}
 use Rattle.rules.specs.Admission.{FirstAnswer, NoneSpelled}
 use Rattle.rules.specs.Records.{zeroLevel, zeroParam, padded, overwritten}
 use Rattle.rules.specs.Refusals.{Told, answered, refused, bare}
-use Rattle.rules.specs.Steps.{reaches}
 
 -- what is told, and what both buffers hold then
 pub record Leaves (t : Told (ℕ × ℕ)) (ls : List LevelRecord) (ps : List ParamRecord) (t′ : Told (ℕ × ℕ)) (ls′ : List LevelRecord) (ps′ : List ParamRecord) : Type 0 where

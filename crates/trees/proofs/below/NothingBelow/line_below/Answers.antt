@@ -1,5 +1,3 @@
-use mathlib.Core.Path.{_≡_, subst, sym}
-use Rattle.rules.specs.Lines.{noLine}
 use Rattle.rules.proofs.LinesMore.{given-end, only-line}
 use Rattle.trees.proofs.below.NothingBelow.line_below.Needs as need
 

@@ -1,9 +1,9 @@
-use mathlib.Core.Path.{_≡_, refl, sym, ap, subst, _∙_}
+use mathlib.Core.Path.{refl, ap, _∙_}
 use native.Mathlib.Omega.{arith}
 use Prim.Native.Nat.{_<_}
 use lib.ListN.{length, getD, length-set}
 use Rattle.rules.specs.Forests.{routeOf}
-use Rattle.rules.specs.Lines.{lines, noLine, hooksOf}
+use Rattle.rules.specs.Lines.{noLine}
 use Rattle.rules.proofs.LinesMore.{given-as, under-length, under-at, given-under, hooks-few}
 use Rattle.trees.proofs.nested_route.NestedRoutes.line_at.Needs as need
 

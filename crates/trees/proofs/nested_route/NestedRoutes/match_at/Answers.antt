@@ -1,10 +1,9 @@
-use mathlib.Core.Path.{_≡_, refl, sym, ap, _∙_}
+use mathlib.Core.Path.{refl, sym, ap, _∙_}
 use Rattle.rules.specs.Forests.{routeOf}
-use Rattle.rules.specs.KeptLists.{keeping, under}
+use Rattle.rules.specs.KeptLists.{keeping, under, eachKeeping}
 use native.Mathlib.Omega.{arith}
 use Prim.Native.Nat.{_<_}
 use Rattle.rules.specs.Keeping.{optionals}
-use Rattle.rules.specs.KeptLists.{eachKeeping}
 use Rattle.rules.proofs.Takes.{optionals-le}
 use Rattle.rules.proofs.Capped.{capped-is}
 use Rattle.rules.specs.Steps.{firstRead, Matched}

@@ -1,5 +1,4 @@
 use native.Mathlib.Omega.{arith}
-use mathlib.Core.Path.{_≡_, sym, subst}
 use Rattle.rules.proofs.NestLines.{kept-as}
 use Rattle.rules.proofs.PairLines.{first-kept, second-kept, first-kept-there, second-kept-there}
 use Rattle.trees.proofs.pair.PairRoutes.kept_at.Needs as need

@@ -1,7 +1,4 @@
-use mathlib.Core.Path.{_≡_, sym, ap, _∙_}
 use native.Mathlib.Omega.{arith}
-use lib.ListN.{length}
-use Rattle.rules.specs.Numbers.{capped}
 use Rattle.rules.proofs.PairLines.{first-count, second-count}
 use Rattle.trees.proofs.pair.PairRoutes.kept_count.Needs as need
 

@@ -1,5 +1,4 @@
 use native.Mathlib.Omega.{arith}
-use mathlib.Core.Path.{_≡_, sym, subst}
 use Rattle.rules.proofs.LinesMore.{given-as}
 use Rattle.rules.proofs.PairLines.{first-line, second-line, second-there}
 use Rattle.trees.proofs.pair.PairRoutes.line_at.Needs as need

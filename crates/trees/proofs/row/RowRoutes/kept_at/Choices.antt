@@ -1,10 +1,8 @@
 use mathlib.Core.Path.{_≡_}
-use Prim.Native.Nat.{_+_, _<_}
+use Prim.Native.Nat.{_<_}
 use lib.ListN.{length, drop, getD}
 use Rattle.rules.specs.Forests.{forestOf}
-use Rattle.rules.specs.Lines.{lines, noLine}
 use Rattle.rules.specs.KeptLists.{kept, ofLine, noList}
-use Rattle.rules.specs.Numbers.{capped}
 use Rattle.trees.proofs.row.RowRoutes.kept_at.Given as given
 
 abbrev pub Inv-loop-item : given.InvT-loop-item

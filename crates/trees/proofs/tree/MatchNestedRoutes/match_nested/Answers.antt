@@ -1,4 +1,4 @@
-use mathlib.Core.Path.{_≡_, sym}
+use mathlib.Core.Path.{sym}
 use Rattle.trees.proofs.Giving.{nested-found}
 use Rattle.trees.proofs.tree.MatchNestedRoutes.match_nested.Needs as need
 
