@@ -22,3 +22,4 @@ pub mod KeptOfLine
 pub mod NestLines
 pub mod PairLines
 pub mod RowLines
+pub mod OnLines

@@ -1,13 +1,15 @@
 -- THE KEPT LISTS of a forest.
 use mathlib.Core.List.{List, [], _∷_, _++_}
 use mathlib.Core.Bool.{cond}
-use Prim.Native.Nat.{ℕ, zero, suc, _+_}
+use mathlib.Core.Path.{_≡_}
+use Prim.Native.Nat.{ℕ, zero, suc, _+_, _<_}
 use lib.Dec.{eqb}
-use lib.ListN.{length}
+use lib.ListN.{length, getD}
+use Rattle.std.specs.shelf.Lists.{All}
 use Rattle.rules.specs.Entries.{Entry}
 use Rattle.rules.specs.Keeping.{optionals, Numbered, keptFrom, plainly}
 use Rattle.rules.specs.Forests.{Route, Forest, none, leaf, nest}
-use Rattle.rules.specs.Lines.{lines}
+use Rattle.rules.specs.Lines.{Line, noLine, lines}
 
 -- a route that keeps the first n of its OptionalParams
 pub record KeptRoute : Type 0 where
@@ -70,3 +72,17 @@ ofLine n (l ∷ ls) = cond (eqb (l .line) n) (l ∷ ofLine n ls) (ofLine n ls)
 -- no kept list
 abbrev pub noList : KeptList
 noList = record { line = 0; routes = [] }
+
+-- the ids of a kept list, root first
+abbrev pub idsOf : List KeptRoute → List ℕ
+idsOf [] = []
+idsOf (k ∷ ks) = k .id ∷ idsOf ks
+
+-- a kept list stands on the line of its number: that line is there, and has its ids
+pub record OnLine (ls : List Line) (k : KeptList) : Type 0 where
+  pub there : k .line < length ls
+  pub ids : idsOf (k .routes) ≡ getD ls (k .line) noLine .ids
+
+-- Each kept list of a forest stands on one of the forest's lines.
+abbrev pub KeptOnLines : Type 0
+KeptOnLines = (f : Forest) → All (OnLine (lines f)) (kept f)
