@@ -1,4 +1,3 @@
-ghost use denote.Ref.{now};
 use rules::records::LevelRecord;
 use rules::records::LineRecord;
 use rules::records::ParamRecord;

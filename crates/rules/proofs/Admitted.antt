@@ -18,7 +18,8 @@ use Rattle.rules.specs.KeptLists.{KeptList, keeping, under, eachKeeping, child
 use Rattle.rules.specs.Admission.{later, Spelled, Answers, FirstSpelled, here, NoneSpelled, FirstAnswer, OneSpelling, ReaderAdmits}
 use Rattle.rules.specs.Lines.{lines}
 use Rattle.rules.specs.Answers.{Answer, answerOf}
-use Rattle.rules.specs.Steps.{orElse, keptReads, firstRead}
+use Rattle.rules.specs.Choice.{orElse}
+use Rattle.rules.specs.Steps.{keptReads, firstRead}
 use Rattle.rules.proofs.KeptEntry.{as-kept}
 use Rattle.rules.proofs.Spelled.{Required, spells-once}
 use Rattle.rules.proofs.Answered.{spelled-answer, answer-spelled}

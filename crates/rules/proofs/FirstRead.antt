@@ -10,7 +10,8 @@ use Rattle.rules.specs.Forests.{Forest, none, leaf, nest, beside}
 use Rattle.rules.specs.KeptLists.{KeptRoute, KeptList, under, childless, kept, afterLines, keptOver}
 use Rattle.rules.specs.Lines.{lines}
 use Rattle.rules.specs.Answers.{Answer}
-use Rattle.rules.specs.Steps.{andThen, orElse, listReads, addLevel, keptReads, firstRead}
+use Rattle.rules.specs.Steps.{andThen, listReads, addLevel, keptReads, firstRead}
+use Rattle.rules.specs.Choice.{orElse}
 
 or-assoc : {A : Type 0} (a b c : Option A) → orElse (orElse a b) c ≡ orElse a (orElse b c)
 or-assoc None b c = refl

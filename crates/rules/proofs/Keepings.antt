@@ -11,7 +11,8 @@ use Rattle.rules.specs.declared.records.ParamRecord.{ParamRecord}
 use Rattle.rules.specs.Forests.{Route, Forest, none, leaf, nest}
 use Rattle.rules.specs.KeptLists.{KeptList, keeping, under, eachKeeping, keptOver, childless, kept}
 use Rattle.rules.specs.Answers.{Answer}
-use Rattle.rules.specs.Steps.{orElse, firstRead, levelsAfter, paramsAfter, Matched}
+use Rattle.rules.specs.Choice.{orElse}
+use Rattle.rules.specs.Steps.{firstRead, levelsAfter, paramsAfter, Matched}
 use Rattle.rules.proofs.FirstRead.{first-append}
 use Rattle.rules.proofs.MatchMore.{unused, matched-none, either-first, either-second}
 

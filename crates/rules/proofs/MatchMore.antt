@@ -16,7 +16,8 @@ use Rattle.rules.specs.Forests.{Route}
 use Rattle.rules.specs.KeptLists.{KeptList, keeping, under, childless}
 use Rattle.rules.specs.Answers.{Answer, noRecords, anyBare, partLength}
 use Rattle.rules.specs.Records.{overwritten}
-use Rattle.rules.specs.Steps.{andThen, orElse, isEnding, keptEntries, hasBare, listTakes, listReads, countRead, readInto, addLevel, firstRead, levelsAfter, paramsAfter, inUse, Matched}
+use Rattle.rules.specs.Steps.{andThen, isEnding, keptEntries, hasBare, listTakes, listReads, countRead, readInto, addLevel, firstRead, levelsAfter, paramsAfter, inUse, Matched}
+use Rattle.rules.specs.Choice.{orElse}
 use Rattle.rules.proofs.KeptEntry.{as-kept}
 use Rattle.rules.proofs.Buffers.{overwritten-none, overwritten-more, overwritten-room, overwritten-both}
 use Rattle.rules.proofs.ReadMore.{takes-read}

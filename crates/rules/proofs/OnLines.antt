@@ -1,16 +1,15 @@
 -- Each kept list of a forest stands on the line of its number.
-use mathlib.Core.Path.{_≡_, refl, sym, ap, subst, _∙_}
+use mathlib.Core.Path.{_≡_, refl, sym, ap, _∙_}
 use mathlib.Core.List.{List, [], _∷_, _++_}
-use Prim.Native.Nat.{ℕ, zero, suc, _+_, _<_}
+use Prim.Native.Nat.{ℕ, zero, suc, _+_}
 use native.Mathlib.Omega.{arith}
-use native.Mathlib.Numerals.{one-add}
 use lib.ListN.{length, getD, length-append}
 use Rattle.std.specs.shelf.Lists.{All}
 use Rattle.std.proofs.shelf.Lists.{getD-append-left, getD-append-add}
 use Rattle.rules.specs.Keeping.{optionals}
-use Rattle.rules.specs.Forests.{Route, Forest, none, leaf, nest}
+use Rattle.rules.specs.Forests.{Route, none, leaf, nest}
 use Rattle.rules.specs.Lines.{Line, noLine, lineOf, linesUnder, lines}
-use Rattle.rules.specs.KeptLists.{KeptRoute, KeptList, keeping, put, under, eachKeeping, keptOver, childless, afterLines, kept, OnLine, KeptOnLines}
+use Rattle.rules.specs.KeptLists.{KeptList, keeping, under, eachKeeping, keptOver, childless, afterLines, kept, OnLine, KeptOnLines}
 use Rattle.rules.proofs.LinesMore.{under-length, under-at}
 
 abbrev On : List Line → List KeptList → Type 0

@@ -7,7 +7,8 @@ use Rattle.std.proofs.shelf.Lists.{at-drop-more, at-drop-all}
 use Rattle.std.specs.declared.option.Option.the-variants.{None}
 use Rattle.rules.specs.Forests.{Forest, forestOf}
 use Rattle.rules.specs.KeptLists.{kept}
-use Rattle.rules.specs.Steps.{orElse, firstRead}
+use Rattle.rules.specs.Choice.{orElse}
+use Rattle.rules.specs.Steps.{firstRead}
 use Rattle.rules.proofs.FirstRead.{first-beside}
 
 module _ {X : Type 0} (f : X → Forest) (level at : ℕ) (p : List ℕ) where

@@ -1,3 +1,4 @@
+pub mod Choice
 pub mod Paths
 pub mod Entries
 pub mod Taking

@@ -16,6 +16,7 @@ use Rattle.rules.specs.declared.refusal.Cause.the-variants.{Count, Place, Leng
 use Rattle.rules.specs.declared.refusal.EntryFault.{EntryFault}
 use Rattle.std.specs.declared.result.Result.{Result}
 use Rattle.std.specs.declared.result.Result.the-variants.{Ok, Err}
+use Rattle.rules.specs.Choice.{orElse}
 use Rattle.rules.specs.Paths.{slashFree}
 use Rattle.rules.specs.Records.{textIn}
 use Rattle.rules.specs.Refusals.{Told, answered, refused, entry}
@@ -73,10 +74,6 @@ isUnit Splat = false
 abbrev pub placeFault : List ℕ → EntryPlace → Option Cause
 placeFault text e = cond (isUnit (e .kind)) None (faultIn (e .kind) (partOf text (e .start) (e .len)))
 
-abbrev pub orLater : {A : Type 0} → Option A → Option A → Option A
-orLater None o = o
-orLater (Some a) o = Some a
-
 -- the same with the entry's number
 abbrev pub numberedFault : List ℕ → ℕ → EntryPlace → Option EntryFault
 numberedFault text i e = mapped (λ c. record { number = i; cause = c }) (placeFault text e)
@@ -84,7 +81,7 @@ numberedFault text i e = mapped (λ c. record { number = i; cause = c }) (placeF
 -- the first entry at fault, of entries numbered from i
 abbrev pub firstFault : List ℕ → ℕ → List EntryPlace → Option EntryFault
 firstFault text i [] = None
-firstFault text i (e ∷ es) = orLater (numberedFault text i e) (firstFault text (i + 1) es)
+firstFault text i (e ∷ es) = orElse (numberedFault text i e) (firstFault text (i + 1) es)
 
 -- the count first, and then the entries
 abbrev pub listFault : ℕ → List ℕ → List EntryPlace → Option EntryFault

@@ -12,6 +12,7 @@ use Rattle.rules.specs.declared.records.LevelRecord.{LevelRecord}
 use Rattle.rules.specs.declared.records.ParamRecord.{ParamRecord}
 use Rattle.rules.specs.declared.records.LineRecord.{LineRecord}
 use Rattle.rules.specs.declared.segment.PathSegment.{PathSegment}
+use Rattle.rules.specs.Choice.{orElse}
 use Rattle.rules.specs.Paths.{isSlash}
 use Rattle.rules.specs.Entries.{Entry, isOptional, isBare, hasValue}
 use Rattle.rules.specs.Taking.{Taken, nothing, taking}
@@ -24,10 +25,6 @@ use Rattle.rules.specs.Lines.{Line}
 abbrev pub andThen : {A B : Type 0} → Option A → (A → Option B) → Option B
 andThen None f = None
 andThen (Some a) f = f a
-
-abbrev pub orElse : {A : Type 0} → Option A → Option A → Option A
-orElse None o = o
-orElse (Some a) o = Some a
 
 abbrev pub isEnding : List ℕ → Bool
 isEnding [] = true
