@@ -1,4 +1,4 @@
-//! Flat lists of segment kinds: what a list takes of a path, and what it reads of it.
+//! Flat lists of segment kinds: what a list takes of a path, what it reads of it, and the entries that it generates.
 
 pub mod chain;
 pub mod kept;

@@ -1,4 +1,4 @@
-//! What the firm's links mean: entries, taking, spelling, keeping, answers and refusals. The definitions stand in specs/; here
+//! What links mean: entries, taking, spelling, keeping, trees, lines, answers and refusals. The definitions stand in specs/; here
 //! are the plain values that calls give out, and the theorems about the definitions.
 
 pub mod laws;

@@ -1,4 +1,4 @@
-//! Trees of routes, and the call that finds a link's route in one.
+//! Trees of routes: the call that finds a link's route in one, and a tree's lines and kept lists by number.
 
 pub mod below;
 pub mod by_ref;
