@@ -18,6 +18,7 @@ use segments::static_segment::Text;
 use segments::static_segment::TextPath;
 use trees::below::Childless;
 use trees::below::NothingBelow;
+use trees::below::TreeBelow;
 use trees::nested_route::NestedRoute;
 use trees::nested_route::NestedRoutes;
 use trees::pair::Pair;

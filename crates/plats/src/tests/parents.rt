@@ -4,6 +4,7 @@ use crate::tests::outcome::fixed;
 use lists::chain::ChainList;
 use lists::chain::EndList;
 use lists::kinds;
+use rules::refusal::CauseDebug;
 use rules::refusal::Refusal;
 use rules::refusal::RefusalDebug;
 use rules::refusal::RefusalPartialEq;
