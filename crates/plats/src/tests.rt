@@ -8,6 +8,7 @@ mod lines;
 mod links;
 mod nests;
 mod outcome;
+mod own_match;
 mod parents;
 mod paths;
 mod plats;
