@@ -27,11 +27,13 @@ on-more ls ms (k ∷ ks) a =
 
 on-after : (ls ms : List Line) (n : ℕ) (ks : List KeptList) → n ≡ length ls → On ms ks → On (ls ++ ms) (afterLines n ks)
 on-after ls ms n [] e a = tt
-on-after ls ms n (k ∷ ks) e a =
-    (record {
-      there = omega (arith, a .0 .there, length-append ls ms, e);
-      ids = a .0 .ids ∙ ap (λ l. l .ids) (sym (ap (λ m. getD (ls ++ ms) (m + k .line) noLine) e ∙ getD-append-add ls ms (k .line) noLine));
-    }, on-after ls ms n ks e (a .1))
+on-after ls ms n (k ∷ ks) e a = (
+  record {
+    there = omega (arith, a .0 .there, length-append ls ms, e);
+    ids = a .0 .ids ∙ ap (λ l. l .ids) (sym (ap (λ m. getD (ls ++ ms) (m + k .line) noLine) e ∙ getD-append-add ls ms (k .line) noLine));
+  },
+  on-after ls ms n ks e (a .1),
+)
 
 -- below a route
 on-under : (r : Route) (n : ℕ) (ls : List Line) (ks : List KeptList) → On ls ks → On (linesUnder r ls) (under (keeping r n) ks)

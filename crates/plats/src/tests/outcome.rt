@@ -5,6 +5,7 @@ use rules::records::LevelRecordPartialEq;
 use rules::records::ParamRecord;
 use rules::records::ParamRecordDebug;
 use rules::records::ParamRecordPartialEq;
+use rules::records::RouteId;
 use rules::refusal::Refusal;
 use rules::refusal::RefusalDebug;
 use rules::refusal::RefusalPartialEq;
@@ -31,7 +32,7 @@ const OLD_PARAM: ParamRecord = ParamRecord {
 #[derive(Clone, Copy, PartialEq, Eq, Debug)]
 pub struct Outcome {
     told: Result<(usize, usize), Refusal>,
-    levels: [LevelRecord; 2],
+    levels: [LevelRecord; 3],
     params: [ParamRecord; 4],
 }
 
@@ -49,16 +50,16 @@ impl Outcome {
     }
 }
 
-// A call that is lent the first so many records of buffers of 2 and 4.
+// A call that is lent the first so many records of buffers of 3 and 4.
 pub fn matched_in<T: MatchNestedRoutes>(
     tree: &T,
     path: &[u8],
     level_count: usize,
     param_count: usize,
 ) -> Outcome {
-    let mut levels = [OLD_LEVEL; 2];
+    let mut levels = [OLD_LEVEL; 3];
     let mut params = [OLD_PARAM; 4];
-    let l = level_count.min(2);
+    let l = level_count.min(3);
     let p = param_count.min(4);
     let told = match_route(tree, path, &mut levels[0..l], &mut params[0..p]);
     Outcome {
@@ -68,9 +69,9 @@ pub fn matched_in<T: MatchNestedRoutes>(
     }
 }
 
-// A call with all records, more than any route of the tests needs.
+// A call with all records, as many as any tree of the tests needs.
 fn matched<T: MatchNestedRoutes>(tree: &T, path: &[u8]) -> Outcome {
-    matched_in(tree, path, 2, 4)
+    matched_in(tree, path, 3, 4)
 }
 
 // A static segment.
@@ -78,6 +79,33 @@ pub fn fixed(text: &[u8]) -> Result<StaticSegment<Text>, Refusal> {
     Ok(StaticSegment {
         text: Text::new(text)?,
     })
+}
+
+// An answer: the id, start and length of each level, and the level, entry, start and length of each value.
+pub fn nested(
+    parts: &[(RouteId, usize, usize)],
+    values: &[(usize, usize, usize, usize)],
+) -> Outcome {
+    let mut levels = [LevelRecord::ZERO; 3];
+    for (record, part) in levels.iter_mut().zip(parts.iter()) {
+        let (id, start, len) = *part;
+        *record = LevelRecord { id, start, len };
+    }
+    let mut params = [ParamRecord::ZERO; 4];
+    for (record, value) in params.iter_mut().zip(values.iter()) {
+        let (level, entry, start, len) = *value;
+        *record = ParamRecord {
+            level,
+            entry,
+            start,
+            len,
+        };
+    }
+    Outcome {
+        told: Ok((parts.len(), values.len())),
+        levels,
+        params,
+    }
 }
 
 // An answer of one route: its id, the length of its part, and the entry, start and length of each value.
@@ -94,7 +122,11 @@ pub fn admitted(id: u16, len: usize, values: &[(usize, usize, usize)]) -> Outcom
     }
     Outcome {
         told: Ok((1, values.len())),
-        levels: [LevelRecord { id, start: 0, len }, LevelRecord::ZERO],
+        levels: [
+            LevelRecord { id, start: 0, len },
+            LevelRecord::ZERO,
+            LevelRecord::ZERO,
+        ],
         params,
     }
 }
@@ -103,7 +135,7 @@ pub fn admitted(id: u16, len: usize, values: &[(usize, usize, usize)]) -> Outcom
 pub fn declined() -> Outcome {
     Outcome {
         told: Err(Refusal::NoRoute),
-        levels: [LevelRecord::ZERO; 2],
+        levels: [LevelRecord::ZERO; 3],
         params: [ParamRecord::ZERO; 4],
     }
 }
@@ -112,7 +144,7 @@ pub fn declined() -> Outcome {
 pub fn refused(refusal: Refusal) -> Outcome {
     Outcome {
         told: Err(refusal),
-        levels: [OLD_LEVEL; 2],
+        levels: [OLD_LEVEL; 3],
         params: [OLD_PARAM; 4],
     }
 }
