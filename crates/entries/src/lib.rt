@@ -1,4 +1,5 @@
 //! Entries as they are held, handed over and given out: their records, the check of their texts and names, and lawful paths.
+#![tactic(auto)]
 
 pub mod check;
 pub mod path;

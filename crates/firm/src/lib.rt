@@ -1,4 +1,5 @@
 //! The firm's tree of pages, and a table of its links with what the rules say of each.
+#![tactic(auto)]
 
 pub mod pages;
 pub mod table;

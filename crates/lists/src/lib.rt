@@ -1,4 +1,5 @@
 //! Flat lists of segment kinds: what a list takes of a path, what it reads of it, and the entries that it generates.
+#![tactic(auto)]
 
 pub mod chain;
 pub mod kept;

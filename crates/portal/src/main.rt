@@ -1,5 +1,7 @@
 // Prints the index of the firm's pages, and then, for each link of standard input, one to a line, which page it opens, or why it
 // is declined.
+#![tactic(auto)]
+
 use firm::pages::pages;
 use index::print_index;
 use links::print_link;

@@ -17,19 +17,19 @@ next_none : (o : Option (ℕ × ℕ)) → o ≡ add_taken (0, 0, 0) false o
 next_none None = refl
 next_none (Some u) = ap Some (rw (zero-add, add-zero))
 
--- a list whose firstRead entry is not kept
+-- a list whose first entry is not kept
 pub takes_skip : (oe : Option Entry) (es : List Entry) (n : ℕ) (p : List ℕ) → None ≡ still_kept (means_optional oe) n → list_takes (kept_entries n (with_entry oe es)) p ≡ list_takes (kept_entries 0 es) p
 takes_skip None es n p h = let z : ◌≡◌ {A = ℕ} 0 1 = cc in absurd (omega arith)
 takes_skip (Some e) es n p h = ap (λ o. list_takes (keep_or_drop o (kept_entries 0 es) (λ m. as_kept e ∷ kept_entries m es)) p) (sym h)
 
--- a list whose firstRead entry is kept, and refuses
+-- a list whose first entry is kept, and refuses
 pub takes_stop : (oe : Option Entry) (es : List Entry) (n m : ℕ) (p : List ℕ) → Some m ≡ still_kept (means_optional oe) n → None ≡ meaning_takes (meaning_kept oe) p → list_takes (kept_entries n (with_entry oe es)) p ≡ None
 takes_stop None es n m p h k = let z : ◌≡◌ {A = ℕ} 0 1 = cc in absurd (omega arith)
 takes_stop (Some e) es n m p h k =
     ap (λ o. list_takes (keep_or_drop o (kept_entries 0 es) (λ m. as_kept e ∷ kept_entries m es)) p) (sym h)
     ∙ ap (λ o. and_then o (λ t. add_taken t (has_value (as_kept e)) (list_takes (kept_entries m es) (drop t.0 p)))) (sym k)
 
--- a list whose firstRead entry is kept, and takes something
+-- a list whose first entry is kept, and takes something
 pub takes_more : (oe : Option Entry) (es : List Entry) (n m : ℕ) (p : List ℕ) (t : Taken) → Some m ≡ still_kept (means_optional oe) n → Some t ≡ meaning_takes (meaning_kept oe) p → list_takes (kept_entries n (with_entry oe es)) p ≡ add_taken t (means_value oe) (list_takes (kept_entries m es) (drop t.0 p))
 takes_more None es n m p t h k =
     let e : m ≡ n = cc in
@@ -130,7 +130,7 @@ pub bit : (b : Bool) → cond b 1 0 ≤ 1
 bit true = omega arith
 bit false = omega arith
 
--- a list with its firstRead entry is as long as the rest and that entry
+-- a list with its first entry is as long as the rest and that entry
 pub entries_length : (oe : Option Entry) (es : List Entry) → length (with_entry oe es) ≡ means_count oe + length es
 entries_length None es = omega arith
 entries_length (Some e) es = omega arith

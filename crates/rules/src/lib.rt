@@ -1,5 +1,6 @@
 //! What links mean: entries, taking, spelling, keeping, trees, lines, answers and refusals. The definitions stand in specs/; here
 //! are the plain values that calls give out, and the theorems about the definitions.
+#![tactic(auto)]
 
 pub mod laws;
 pub mod mode;

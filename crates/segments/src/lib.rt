@@ -1,4 +1,5 @@
 //! The segment kinds of a route: what stands behind `PossibleRouteMatch`.
+#![tactic(auto)]
 
 pub mod as_path;
 pub mod kind;

@@ -1,4 +1,5 @@
 //! Writing links: the variants of a list with optional entries, and the paths of a list by number, with values from a table.
+#![tactic(auto)]
 
 pub mod paths;
 pub mod piece;
