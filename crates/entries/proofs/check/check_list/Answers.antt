@@ -15,19 +15,19 @@ few limit t es h = cond-true (leb (length es) limit) (first_fault t 0 es) (Some 
 abbrev blank : EntryPlace
 blank = record { kind = AUnit; start = 0; len = 0 }
 
-pub returns-in-err-check-entry : goal.returns-in-err-check-entry
-returns-in-err-check-entry c =
-    let p = err_from_is_err_and c.from-residual.result c.from-residual.ensures.1 in
+pub returns-in_err-check_entry : goal.returns-in_err-check_entry
+returns-in_err-check_entry c =
+    let p = err_from_is_err_and c.from_residual.result c.from_residual.ensures.1 in
     let t = c.args.text.now in
     let es = c.args.list.now in
     let m = at_drop_more (first_fault t c.loop-i.i) es c.loop-i.i blank c.loop-i-test.true in
-    let e = c.in-err-check-entry.ensures in
+    let e = c.in_err-check_entry.ensures in
     rw (p.1, p.2) (sym (few c.args.limit t es c.if-list-limit.false ∙ (sym c.loop-i.invariant ∙ (m ∙ rw (← e)))))
 
 pub loop-i-preserved : goal.loop-i-preserved
 loop-i-preserved c =
     let m = at_drop_more (first_fault c.args.text.now c.loop-i.i) c.args.list.now c.loop-i.i blank c.loop-i-test.true in
-    let n = rw (← c.in-ok-check-entry.ensures) at m in
+    let n = rw (← c.in_ok-check_entry.ensures) at m in
     sym n ∙ c.loop-i.invariant
 
 pub returns : goal.returns

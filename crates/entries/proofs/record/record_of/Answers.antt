@@ -25,5 +25,5 @@ front n t h =
 pub returns : goal.returns
 returns c =
     let t = c.args.text.now in
-    let e : c.copy-from-slice.new.self ≡ take 24 t = c.copy-from-slice.ensures.after ∙ front c.min-len.result t c.min-len.ensures in
+    let e : c.copy_from_slice.new.self ≡ take 24 t = c.copy_from_slice.ensures.after ∙ front c.min-len.result t c.min-len.ensures in
     filled c.args.kind c.min-len.result (take 24 t) _ e (omega (arith, c.min-len.ensures, length-take 24 t))
