@@ -1,28 +1,28 @@
 use Rattle.writing.proofs.paths.+put_path.Goals as goal
 
-pub returns-in-default : goal.returns-in-default
-returns-in-default t c = ?
+pub returns-in_default : goal.returns-in_default
+returns-in_default t c = ?
 
-pub nonzero-div-left : goal.nonzero-div-left
-nonzero-div-left t c = ?
+pub nonzero_div-left : goal.nonzero_div-left
+nonzero_div-left t c = ?
 
-pub nonzero-div-n : goal.nonzero-div-n
-nonzero-div-n t c = ?
+pub nonzero_div-n : goal.nonzero_div-n
+nonzero_div-n t c = ?
 
-pub chosen-value-value-requires : goal.chosen-value-value-requires
-chosen-value-value-requires t c = ?
+pub chosen_value-value-requires : goal.chosen_value-value-requires
+chosen_value-value-requires t c = ?
 
 pub returns-then-not-fits : goal.returns-then-not-fits
 returns-then-not-fits t c = ?
 
-pub nonzero-rem-n : goal.nonzero-rem-n
-nonzero-rem-n t c = ?
+pub nonzero_rem-n : goal.nonzero_rem-n
+nonzero_rem-n t c = ?
 
-pub put-path-requires : goal.put-path-requires
-put-path-requires t c = ?
+pub put_path-requires : goal.put_path-requires
+put_path-requires t c = ?
 
-pub returns-in-err-end : goal.returns-in-err-end
-returns-in-err-end t c = ?
+pub returns-in_err-end : goal.returns-in_err-end
+returns-in_err-end t c = ?
 
 pub returns : goal.returns
 returns t c = ?

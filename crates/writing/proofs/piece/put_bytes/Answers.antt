@@ -7,4 +7,4 @@ pub returns : goal.returns
 returns c =
     let at = c.args.at in
     let bytes = c.args.bytes.now in
-    ap (put_mid at (at + length bytes - at) c.args.out.now) c.copy-from-slice.ensures.after ∙ put_mid c.args.out.now bytes at
+    ap (put_mid at (at + length bytes - at) c.args.out.now) c.copy_from_slice.ensures.after ∙ put_mid c.args.out.now bytes at

@@ -6,4 +6,4 @@ use Rattle.writing.proofs.values.count_choices.Given as goal
 abbrev pub invariant-loop-place : goal.invariant-loop-place
 invariant-loop-place l =
     (l.count ≤ 65536)
-    × (min (l.count * length (path_choices l.value-text l.values (entries_in l.text (drop l.place-index l.list)))) 65536 ≡ min (length (path_choices l.value-text l.values (entries_in l.text l.list))) 65536)
+    × (min (l.count * length (path_choices l.value_text l.values (entries_in l.text (drop l.place-index l.list)))) 65536 ≡ min (length (path_choices l.value_text l.values (entries_in l.text l.list))) 65536)

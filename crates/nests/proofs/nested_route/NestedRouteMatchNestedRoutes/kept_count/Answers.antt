@@ -6,4 +6,4 @@ pub returns : goal.returns
 returns g c =
     let self = c.args.self.now in
     let r = route_of self.id (g.L.KindList.entries self.list) self.mode self.hook in
-    nest_kept_count r (g.C.Below.lists self.children) c.args.line _ (g.C.Below.listing self.children r) _ _ _ _ c.optional-count.ensures c.saturating-add-kept.ensures c.kept-lists-below.ensures c.saturating-mul.ensures
+    nest_kept_count r (g.C.Below.lists self.children) c.args.line _ (g.C.Below.listing self.children r) _ _ _ _ c.optional_count.ensures c.saturating_add-kept.ensures c.kept_lists_below.ensures c.saturating_mul.ensures

@@ -8,4 +8,4 @@ pub returns : goal.returns
 returns g c =
     let self = c.args.self.now in
     let r = route_of self.id (g.L.KindList.entries self.list) self.mode self.hook in
-    c.lines-below.ensures ∙ ap capped (sym (under_length r (g.C.Below.rests self.children)) ∙ ap length (sym (g.C.Below.lining self.children r)))
+    c.lines_below.ensures ∙ ap capped (sym (under_length r (g.C.Below.rests self.children)) ∙ ap length (sym (g.C.Below.lining self.children r)))

@@ -22,7 +22,7 @@ loop-used-preserved g c =
     let self = c.args.self.now in
     let r = route_of self.id (g.L.KindList.entries self.list) self.mode self.hook in
     let below = g.C.Below.lists self.children in
-    let n = keeping_next r below c.args.l c.args.at c.args.path.now _ c.loop-used.keep c.args.l c.args.p c.loop-used.invariant.0 c.if-keep-eq0.false c.in-default.ensures in
+    let n = keeping_next r below c.args.l c.args.at c.args.path.now _ c.loop-used.keep c.args.l c.args.p c.loop-used.invariant.0 c.if-keep-eq0.false c.in_default.ensures in
     (n.0, n.1 ∙ c.loop-used.invariant.1, n.2 ∙ c.loop-used.invariant.2)
 
 pub loop-used-init : goal.loop-used-init
@@ -31,4 +31,4 @@ loop-used-init g c =
     let r = route_of self.id (g.L.KindList.entries self.list) self.mode self.hook in
     let below = g.C.Below.lists self.children in
     let few : optionals r.entries < 18446744073709551616 = omega (arith, optionals_le r.entries, c.requires.wide) in
-    (ap (λ n. first_read (each_keeping r n below) c.args.l c.args.at c.args.path.now) (sym (c.optional-count-keep.ensures ∙ capped_is (optionals r.entries) few)), refl, refl)
+    (ap (λ n. first_read (each_keeping r n below) c.args.l c.args.at c.args.path.now) (sym (c.optional_count-keep.ensures ∙ capped_is (optionals r.entries) few)), refl, refl)

@@ -11,8 +11,8 @@ pub returns : goal.returns
 returns g c =
     let f = g.A.MatchNestedRoutes.routes c.args.self.now.first in
     let h = g.B.MatchNestedRoutes.routes c.args.self.now.second in
-    c.saturating-add.ensures
-    ∙ ap (λ x. min (x + c.line-count-2.result) (2 ^ 64 - 1)) c.line-count.ensures
-    ∙ ap (λ x. min (capped (length (lines f)) + x) (2 ^ 64 - 1)) c.line-count-2.ensures
+    c.saturating_add.ensures
+    ∙ ap (λ x. min (x + c.line_count-2.result) (2 ^ 64 - 1)) c.line_count.ensures
+    ∙ ap (λ x. min (capped (length (lines f)) + x) (2 ^ 64 - 1)) c.line_count-2.ensures
     ∙ capped_add (length (lines f)) (length (lines h))
     ∙ ap capped (sym (length-append (lines f) (lines h)) ∙ ap length (sym (lines_beside f h)))

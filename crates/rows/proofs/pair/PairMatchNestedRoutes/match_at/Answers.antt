@@ -12,4 +12,4 @@ pub returns-in-None : goal.returns-in-None
 returns-in-None g c =
     let f = g.A.MatchNestedRoutes.routes c.args.self.now.first in
     let h = g.B.MatchNestedRoutes.routes c.args.self.now.second in
-    either_second _ _ _ (first_beside f h c.args.l c.args.at c.args.path.now) c.in-None.ensures c.match-at-in-None.ensures
+    either_second _ _ _ (first_beside f h c.args.l c.args.at c.args.path.now) c.in-None.ensures c.match_at-in-None.ensures

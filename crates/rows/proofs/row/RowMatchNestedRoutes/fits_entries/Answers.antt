@@ -12,14 +12,14 @@ loop-item-preserved g c =
     let b = g.T.MatchNestedRoutes.bounds in
     let xs = c.args.self.now.items.now in
     let i = c.loop-item.item-index in
-    c.loop-item.invariant ∙ row_within_more b (λ (x : Bounds). x.entries) (λ x y. refl) refl c.args.entries xs i c.item-item.result c.loop-item-test.true c.item-item.is ∙ ap (λ v. v && leb (largest b (drop (i + 1) xs)).entries c.args.entries) (sym c.if-not-fits-entries.ensures)
+    c.loop-item.invariant ∙ row_within_more b (λ (x : Bounds). x.entries) (λ x y. refl) refl c.args.entries xs i c.item-item.result c.loop-item-test.true c.item-item.is ∙ ap (λ v. v && leb (largest b (drop (i + 1) xs)).entries c.args.entries) (sym c.if-not-fits_entries.ensures)
 
-pub returns-then-not-fits-entries : goal.returns-then-not-fits-entries
-returns-then-not-fits-entries g c =
+pub returns-then-not-fits_entries : goal.returns-then-not-fits_entries
+returns-then-not-fits_entries g c =
     let b = g.T.MatchNestedRoutes.bounds in
     let xs = c.args.self.now.items.now in
     let i = c.loop-item.item-index in
-    sym (c.loop-item.invariant ∙ row_within_more b (λ (x : Bounds). x.entries) (λ x y. refl) refl c.args.entries xs i c.item-item.result c.loop-item-test.true c.item-item.is ∙ ap (λ v. v && leb (largest b (drop (i + 1) xs)).entries c.args.entries) (sym c.if-not-fits-entries.ensures))
+    sym (c.loop-item.invariant ∙ row_within_more b (λ (x : Bounds). x.entries) (λ x y. refl) refl c.args.entries xs i c.item-item.result c.loop-item-test.true c.item-item.is ∙ ap (λ v. v && leb (largest b (drop (i + 1) xs)).entries c.args.entries) (sym c.if-not-fits_entries.ensures))
 
 pub returns : goal.returns
 returns g c =

@@ -12,14 +12,14 @@ loop-item-preserved g c =
     let b = g.T.MatchNestedRoutes.bounds in
     let xs = c.args.self.now.items.now in
     let i = c.loop-item.item-index in
-    c.loop-item.invariant ∙ row_within_more b (λ (x : Bounds). x.levels) (λ x y. refl) refl c.args.levels xs i c.item-item.result c.loop-item-test.true c.item-item.is ∙ ap (λ v. v && leb (largest b (drop (i + 1) xs)).levels c.args.levels) (sym c.if-not-fits-levels.ensures)
+    c.loop-item.invariant ∙ row_within_more b (λ (x : Bounds). x.levels) (λ x y. refl) refl c.args.levels xs i c.item-item.result c.loop-item-test.true c.item-item.is ∙ ap (λ v. v && leb (largest b (drop (i + 1) xs)).levels c.args.levels) (sym c.if-not-fits_levels.ensures)
 
-pub returns-then-not-fits-levels : goal.returns-then-not-fits-levels
-returns-then-not-fits-levels g c =
+pub returns-then-not-fits_levels : goal.returns-then-not-fits_levels
+returns-then-not-fits_levels g c =
     let b = g.T.MatchNestedRoutes.bounds in
     let xs = c.args.self.now.items.now in
     let i = c.loop-item.item-index in
-    sym (c.loop-item.invariant ∙ row_within_more b (λ (x : Bounds). x.levels) (λ x y. refl) refl c.args.levels xs i c.item-item.result c.loop-item-test.true c.item-item.is ∙ ap (λ v. v && leb (largest b (drop (i + 1) xs)).levels c.args.levels) (sym c.if-not-fits-levels.ensures))
+    sym (c.loop-item.invariant ∙ row_within_more b (λ (x : Bounds). x.levels) (λ x y. refl) refl c.args.levels xs i c.item-item.result c.loop-item-test.true c.item-item.is ∙ ap (λ v. v && leb (largest b (drop (i + 1) xs)).levels c.args.levels) (sym c.if-not-fits_levels.ensures))
 
 pub returns : goal.returns
 returns g c =

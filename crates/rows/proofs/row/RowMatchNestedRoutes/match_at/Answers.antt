@@ -6,8 +6,8 @@ use Rattle.rules.proofs.RowRead.{row_more, row_all}
 use Rattle.rules.proofs.MatchMore.{either_first, neither_yet, matched_none}
 use Rattle.rows.proofs.row.RowMatchNestedRoutes.match_at.Goals as goal
 
-pub match-at-requires : goal.match-at-requires
-match-at-requires g c =
+pub match_at-requires : goal.match_at-requires
+match_at-requires g c =
     let w = item_within g.T.MatchNestedRoutes.bounds c.args.self.now.items.now c.loop-item.item-index c.item-item.result c.loop-item-test.true c.item-item.is in
     record {
       rooted = c.requires.rooted;
@@ -25,7 +25,7 @@ returns-in-Some g c =
 pub loop-item-preserved : goal.loop-item-preserved
 loop-item-preserved g c =
     let f = g.T.MatchNestedRoutes.routes in
-    let n = neither_yet _ _ _ (c.loop-item.invariant.0 ∙ row_more f c.args.l c.args.at c.args.path.now c.args.self.now.items.now c.loop-item.item-index c.item-item.result c.loop-item-test.true c.item-item.is) c.in-default.ensures in
+    let n = neither_yet _ _ _ (c.loop-item.invariant.0 ∙ row_more f c.args.l c.args.at c.args.path.now c.args.self.now.items.now c.loop-item.item-index c.item-item.result c.loop-item-test.true c.item-item.is) c.in_default.ensures in
     (n.0, n.1 ∙ c.loop-item.invariant.1, n.2 ∙ c.loop-item.invariant.2)
 
 pub returns : goal.returns

@@ -11,6 +11,6 @@ returns g c =
     let f = g.Self.MatchNestedRoutes.routes c.args.self.now in
     let b = g.Self.MatchNestedRoutes.bounds c.args.self.now in
     let zeros : c.fill.new.self ≡ replicate (length c.args.entries.now) zero_segment = search rules in
-    let there = below_capped c.args.line (length (lines f)) (omega (arith, c.line-count.ensures, c.if-line-line-count.false)) in
-    let kept_there = below_capped c.args.n (length (of_line c.args.line (kept f))) (omega (arith, c.kept-count.ensures, c.if-n-kept-count.false)) in
-    kept_found f b c.args.line c.args.n c.args.entries.now _ _ _ (sym c.if-not-fits-entries.ensures) there kept_there zeros c.kept-at.ensures
+    let there = below_capped c.args.line (length (lines f)) (omega (arith, c.line_count.ensures, c.if-line-line_count.false)) in
+    let kept_there = below_capped c.args.n (length (of_line c.args.line (kept f))) (omega (arith, c.kept_count.ensures, c.if-n-kept_count.false)) in
+    kept_found f b c.args.line c.args.n c.args.entries.now _ _ _ (sym c.if-not-fits_entries.ensures) there kept_there zeros c.kept_at.ensures

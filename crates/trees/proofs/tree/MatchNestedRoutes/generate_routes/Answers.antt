@@ -16,6 +16,6 @@ returns g c =
     let zi : c.fill.new.self ≡ replicate (length is) 0 = search rules in
     let ze : c.fill-2.new.self ≡ replicate (length es) zero_segment = search rules in
     let zh : c.fill-3.new.self ≡ replicate (length hs) 0 = search rules in
-    let there = below_capped c.args.n (length (lines f)) (omega (arith, c.line-count.ensures, c.if-n-line-count.false)) in
-    let deep = and_from (leb b.levels (length is)) (leb b.levels (length hs)) (sym c.if-not-fits-levels.ensures) (sym c.if-not-fits-levels-2.ensures) in
-    line_found f b c.args.n is _ _ es _ _ hs _ _ _ (and_from (leb b.levels (length is) && leb b.levels (length hs)) (leb b.entries (length es)) deep (sym c.if-not-fits-entries.ensures)) there zi ze zh c.line-at.ensures
+    let there = below_capped c.args.n (length (lines f)) (omega (arith, c.line_count.ensures, c.if-n-line_count.false)) in
+    let deep = and_from (leb b.levels (length is)) (leb b.levels (length hs)) (sym c.if-not-fits_levels.ensures) (sym c.if-not-fits_levels-2.ensures) in
+    line_found f b c.args.n is _ _ es _ _ hs _ _ _ (and_from (leb b.levels (length is) && leb b.levels (length hs)) (leb b.entries (length es)) deep (sym c.if-not-fits_entries.ensures)) there zi ze zh c.line_at.ensures

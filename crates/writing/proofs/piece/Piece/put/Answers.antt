@@ -12,4 +12,4 @@ returns-then-self c =
     let body = c.args.self.body.now in
     let s = ap (λ b. piece_bytes b body) c.if-self.true in
     let room : at + 1 + length body ≤ length out = omega (arith, c.requires, ap length s) in
-    c.put-bytes.ensures ∙ put_slash out at slash body room ∙ ap (overwritten out at) (sym s)
+    c.put_bytes.ensures ∙ put_slash out at slash body room ∙ ap (overwritten out at) (sym s)
