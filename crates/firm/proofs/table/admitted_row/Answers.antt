@@ -20,5 +20,5 @@ returns-in-4 c = opens _ _ refl refl
 pub returns-in-5 : goal.returns-in-5
 returns-in-5 c = opens _ _ refl refl
 
-pub returns-in-default : goal.returns-in-default
-returns-in-default c = opens _ _ refl refl
+pub returns-in_default : goal.returns-in_default
+returns-in_default c = opens _ _ refl refl
