@@ -5,7 +5,6 @@
 use firm::pages::pages;
 use index::print_index;
 use links::print_link;
-use rows::pair::PairRoutes;
 use rows::print_rows;
 use std::io::{BufRead, BufReader};
 use trees::tree::MatchNestedRoutes;
