@@ -9,12 +9,12 @@ pub returns-in-Some : goal.returns-in-Some
 returns-in-Some c =
     let word = c.args.word.now in
     let rest = c.args.rest.now in
-    let h = MatchOption-at_some ((t : List ℕ) → rest ≡ word ++ t → ⊥) (λ x. rest ≡ word ++ x.now) c.in-Some.after c.in-Some.is (strip_prefix_is Decides-eqb rest word c.strip-prefix.result c.strip-prefix.ensures.cases) in
-    rw (begins_at word rest c.in-Some.after.now h, ← c.in-Some.ensures.cases.1) c.is-rooted.ensures
+    let h = MatchOption-at_some ((t : List ℕ) → rest ≡ word ++ t → ⊥) (λ x. rest ≡ word ++ x.now) c.in-Some.after c.in-Some.is (strip_prefix_is Decides-eqb rest word c.strip_prefix.result c.strip_prefix.ensures.cases) in
+    rw (begins_at word rest c.in-Some.after.now h, ← c.in-Some.ensures.cases.1) c.is_rooted.ensures
 
 pub returns-in-None : goal.returns-in-None
 returns-in-None c =
     let word = c.args.word.now in
     let rest = c.args.rest.now in
-    let h = MatchOption-at_none ((t : List ℕ) → rest ≡ word ++ t → ⊥) (λ x. rest ≡ word ++ x.now) c.in-None.is (strip_prefix_is Decides-eqb rest word c.strip-prefix.result c.strip-prefix.ensures.cases) in
+    let h = MatchOption-at_none ((t : List ℕ) → rest ≡ word ++ t → ⊥) (λ x. rest ≡ word ++ x.now) c.in-None.is (strip_prefix_is Decides-eqb rest word c.strip_prefix.result c.strip_prefix.ensures.cases) in
     rw (begins_not word rest h)
