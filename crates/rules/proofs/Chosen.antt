@@ -1,9 +1,9 @@
 -- The laws of choices: how many there are, and the choice of a number.
-use Rattle.std.proofs.Common.{◌≡◌, ℕ, zero, suc, ◌+◌, ◌-◌, ◌*◌, ◌/◌, ◌%◌, ◌<◌, ◌≤◌, List, [], ◌∷◌, ◌++◌, length, get_or, sym, refl, ap, ◌∙◌, ⊎_elim, mod-lt, mod-eq_of_lt, div-lt_iff_lt-mul, add-mul, one-mul, mul-zero, zero-mul, arith, length-append}
+use Rattle.std.proofs.Common.{◌≡◌, ℕ, zero, suc, ◌+◌, ◌-◌, ◌*◌, ◌/◌, ◌%◌, ◌<◌, ◌≤◌, List, [], ◌∷◌, length, get_or, sym, refl, ap, ◌∙◌, ⊎_elim, mod-lt, mod-eq_of_lt, div-lt_iff_lt-mul, add-mul, one-mul, mul-zero, zero-mul, arith, length-append}
 use native.Mathlib.Nat.{div-eq_of_lt, div-eq-sub-div, mod-eq-sub-mod, div-add-mod}
 use Rattle.std.proofs.lemmas.List.{get_or_append_left, get_or-append_right}
 use Rattle.std.proofs.lemmas.Bool.{cases_lt}
-use Rattle.rules.specs.Choices.{in_front_of, each_in_front, choices, Apart}
+use Rattle.rules.specs.Choices.{in_front_of, each_in_front, Apart}
 
 pub front_length : {A : Type 0} (x : A) (yss : List (List A)) → length (in_front_of x yss) ≡ length yss
 front_length x [] = refl

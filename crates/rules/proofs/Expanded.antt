@@ -1,8 +1,8 @@
 -- The bits of a number make it.
-use Rattle.std.proofs.Common.{◌≡◌, ℕ, zero, suc, ◌+◌, ◌-◌, ◌*◌, ◌^◌, ◌<◌, ◌≤◌, Bool, true, false, cond, ltb, List, [], ◌∷◌, length, sym, refl, ap, ◌∙◌, pow-suc, arith}
+use Rattle.std.proofs.Common.{◌≡◌, ℕ, zero, suc, ◌+◌, ◌-◌, ◌*◌, ◌^◌, true, false, ltb, ◌∷◌, length, refl, ap, ◌∙◌, pow-suc, arith}
 use native.Mathlib.Nat.{pow-zero}
 use Rattle.std.proofs.lemmas.Bool.{cond_both, ltb-true, ltb-false}
-use Rattle.rules.specs.Variants.{bits_of, number_of, BitsMake, VariantsNumbered}
+use Rattle.rules.specs.Variants.{bits_of, number_of, VariantsNumbered}
 
 pub twice : (k : ℕ) → 2 ^ suc k ≡ 2 ^ k + 2 ^ k
 twice k = pow-suc 2 k ∙ double (2 ^ k)

@@ -1,5 +1,5 @@
 -- The first kept list that reads a path, by how the kept lists are put together.
-use Rattle.std.proofs.Common.{◌≡◌, ℕ, ◌+◌, ◌-◌, List, [], ◌∷◌, ◌++◌, length, drop, Some, None, Option, sym, refl, ap, ◌∙◌}
+use Rattle.std.proofs.Common.{◌≡◌, ℕ, ◌+◌, List, [], ◌∷◌, ◌++◌, length, drop, Some, None, Option, sym, refl, ap, ◌∙◌}
 use Rattle.rules.specs.declared.records.ParamRecord.{ParamRecord}
 use Rattle.rules.specs.Forests.{Forest, none, leaf, nest, beside}
 use Rattle.rules.specs.KeptLists.{KeptRoute, KeptList, under, childless, kept, after_lines, kept_over}

@@ -1,10 +1,10 @@
 -- How an entry writes: the law that each kind owes for what it writes.
-use Rattle.std.proofs.Common.{◌≡◌, ℕ, Bool, true, false, cond, not, ◌&&◌, eqb, leb, List, [], ◌∷◌, ◌++◌, length, drop, Some, None, Option, sym, refl, ap, ◌∙◌, subst, ⊎_elim, arith}
+use Rattle.std.proofs.Common.{◌≡◌, ℕ, Bool, true, false, cond, not, leb, List, [], ◌∷◌, length, drop, None, Option, sym, refl, ap, ◌∙◌, subst, ⊎_elim}
 use Rattle.std.proofs.lemmas.Bool.{cases_Bool, cond-true, cond-false, eqb-true, eqb-false, and_parts, both_ways}
 use Rattle.rules.specs.Paths.{slash, is_slash, plain, slash_free}
-use Rattle.rules.specs.Entries.{Entry, unit, static, param, optional, splat, is_bare_text, longest_text, lawful_text, lawful_entry}
-use Rattle.rules.specs.Pieces.{Value, Word, slashed, unslashed, Span, behind_slash, Piece, of_unit, of_empty, of_bare, of_word, of_param, of_splat, of_no_splat}
-use Rattle.rules.specs.Writing.{with_slash, is_silent, all_silent, text_written, bytes_of, ends_slash, Fitting}
+use Rattle.rules.specs.Entries.{Entry, unit, static, param, optional, splat, longest_text, lawful_entry}
+use Rattle.rules.specs.Pieces.{Value, slashed, unslashed, Span, behind_slash, Piece, of_unit, of_empty, of_bare, of_word, of_param, of_splat}
+use Rattle.rules.specs.Writing.{with_slash, is_silent, all_silent, bytes_of, ends_slash, Fitting}
 
 pub data Manner (e : Entry) (v : List ℕ) (es : List Entry) : Type 0 where
   -- it writes nothing, and has an empty piece anywhere

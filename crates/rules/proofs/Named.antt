@@ -1,11 +1,11 @@
 -- The value records of a name: their numbers rise, so no two choices of values are the same.
-use Rattle.std.proofs.Common.{◌≡◌, ℕ, zero, suc, ◌+◌, ◌<◌, ◌≤◌, Bool, true, false, cond, List, [], ◌∷◌, length, get_or, Some, None, Option, sym, refl, ap, ◌∙◌, subst, ⊎_elim, arith}
+use Rattle.std.proofs.Common.{◌≡◌, ℕ, zero, suc, ◌+◌, ◌<◌, ◌≤◌, Bool, true, false, cond, List, [], ◌∷◌, length, get_or, Some, None, sym, refl, ap, ◌∙◌, ⊎_elim, arith}
 use Rattle.std.specs.Str.{bytes_eq}
 use Rattle.std.proofs.lemmas.Bool.{cases_order, cond_both}
 use Rattle.rules.specs.declared.values.ValueRecord.{ValueRecord}
 use Rattle.rules.specs.Entries.{Entry, has_value}
-use Rattle.rules.specs.Choices.{Apart, choices}
-use Rattle.rules.specs.Values.{bytes_in, named_from, name_of_entry, somes, choices_for, choices_for_all, path_choices, PathsApart}
+use Rattle.rules.specs.Choices.{Apart}
+use Rattle.rules.specs.Values.{bytes_in, named_from, name_of_entry, somes, choices_for, path_choices, PathsApart}
 use Rattle.rules.proofs.Chosen.{each_apart}
 
 least : (text x : List ℕ) (i : ℕ) (rs : List ValueRecord) (n : ℕ) → n < length (named_from text x i rs) → i ≤ get_or (named_from text x i rs) n 0

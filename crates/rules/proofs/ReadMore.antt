@@ -5,7 +5,6 @@ use Rattle.rules.specs.declared.records.ParamRecord.{ParamRecord}
 use Rattle.rules.specs.Entries.{Entry, is_optional, has_value, means_optional, means_value, means_count, with_entry}
 use Rattle.rules.specs.Taking.{Taken, taking}
 use Rattle.rules.specs.Keeping.{as_kept, still_kept, keep_or_drop, Numbered, kept_from}
-use Rattle.rules.specs.KeptLists.{kept}
 use Rattle.rules.specs.Records.{overwritten}
 use Rattle.rules.specs.Steps.{and_then, meaning_takes, meaning_kept, kept_entries, add_taken, list_takes, value_record, add_read, list_reads, count_read, read_into}
 use Rattle.rules.proofs.Buffers.{overwritten_more}

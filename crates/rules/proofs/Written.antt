@@ -1,16 +1,16 @@
 -- A path that is written with fitting values spells its list. By the entries' manners alone.
-use Rattle.std.proofs.Common.{◌≡◌, ℕ, zero, suc, ◌+◌, ◌≤◌, Bool, true, false, cond, not, ◌&&◌, leb, List, [], ◌∷◌, ◌++◌, length, Some, None, Option, sym, refl, ap, ◌∙◌, subst, ⊎_elim}
+use Rattle.std.proofs.Common.{◌≡◌, ℕ, zero, suc, ◌+◌, Bool, true, false, cond, ◌&&◌, leb, List, [], ◌∷◌, ◌++◌, length, Some, None, Option, sym, refl, ap, ◌∙◌, subst, ⊎_elim}
 use Rattle.std.specs.List.{AllByRecursion as All}
 use Rattle.std.proofs.lemmas.Bool.{cases_Bool, cond-true, and_parts, and_from, both_ways, le-leb}
-use Rattle.rules.specs.Paths.{longest_path, rooted, lawful, Ending, nothing, one_slash, slash}
+use Rattle.rules.specs.Paths.{longest_path, rooted, Ending, nothing, one_slash, slash}
 use Rattle.rules.specs.Entries.{Entry, is_optional, lawful_entry, lawful_entries}
 use Rattle.rules.specs.Spelling.{Cut, Spells, ends, goes}
-use Rattle.rules.specs.Keeping.{optionals, as_kept, still_kept, keep_or_drop, Numbered, kept_from, plainly}
+use Rattle.rules.specs.Keeping.{optionals, as_kept, still_kept, keep_or_drop, kept_from, plainly}
 use Rattle.rules.specs.Forests.{Route, Forest, none, leaf, nest, lawful_forest}
-use Rattle.rules.specs.KeptLists.{KeptList, KeptRoute, keeping, under, each_keeping, childless, kept, entries_of, after_lines}
+use Rattle.rules.specs.KeptLists.{KeptList, keeping, under, each_keeping, childless, kept, entries_of, after_lines}
 use Rattle.rules.specs.Lines.{lines}
-use Rattle.rules.specs.Admission.{Spelled, FirstSpelled}
-use Rattle.rules.specs.Writing.{is_silent, all_silent, bytes_of, bytes_at, ends_slash, first_value, other_values, written_after, written, AllFitting, Fits, WritingSpells, ReadBack, WrittenReadBack, WritingReadBack}
+use Rattle.rules.specs.Admission.{FirstSpelled}
+use Rattle.rules.specs.Writing.{is_silent, all_silent, bytes_at, ends_slash, first_value, other_values, written_after, written, AllFitting, WritingSpells, WritingReadBack}
 use Rattle.rules.proofs.Manners.{Manner, silently, barely, solidly, wholly, manner}
 use Rattle.rules.proofs.Spelled.{spells_rooted}
 use Rattle.rules.proofs.Admitted.{AllRequired, kept_required, first_up_to}

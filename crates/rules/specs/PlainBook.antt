@@ -1,5 +1,5 @@
 -- THE PLAIN BOOK: what the calls of a book mean. Its state is a tree, an ordered list of routes, empty at first.
-use Rattle.std.specs.Prelude.{ℕ, ◌+◌, Bool, true, false, cond, not, ◌&&◌, ◌||◌, List, [], ◌∷◌, length, Some, None, Option, ◌==◌, nat_le, nat_lt}
+use Rattle.std.specs.Prelude.{ℕ, ◌+◌, Bool, false, cond, not, ◌&&◌, ◌||◌, List, [], length, Some, None, Option, ◌==◌, nat_le, nat_lt}
 use Rattle.std.specs.Option.{option_map}
 use Rattle.rules.specs.declared.mode.SsrMode.{SsrMode}
 use Rattle.rules.specs.declared.segment.EntryPlace.{EntryPlace}

@@ -1,5 +1,5 @@
 -- THE VALUES that paths are written with, and the paths of a list.
-use Rattle.std.specs.Prelude.{◌≡◌, ℕ, ◌+◌, ◌-◌, ◌<◌, Bool, cond, ◌||◌, List, [], ◌∷◌, length, get_or, take, drop, Some, None, Option, nat_lt, slice_index_or}
+use Rattle.std.specs.Prelude.{ℕ, ◌+◌, ◌-◌, Bool, cond, ◌||◌, List, [], ◌∷◌, length, get_or, take, drop, Some, None, Option, nat_lt, slice_index_or}
 use Rattle.std.specs.Str.{bytes_eq}
 use Rattle.rules.specs.declared.values.TextPlace.{TextPlace}
 use Rattle.rules.specs.declared.values.ValueRecord.{ValueRecord}

@@ -1,5 +1,5 @@
 -- VARIANTS of a list: each OptionalParam is kept as a Param, or left out.
-use Rattle.std.specs.Prelude.{◌≡◌, ℕ, zero, suc, ◌+◌, ◌-◌, ◌^◌, ◌<◌, Bool, true, false, cond, not, List, [], ◌∷◌, length, nat_lt}
+use Rattle.std.specs.Prelude.{◌≡◌, ℕ, zero, suc, ◌+◌, ◌-◌, ◌^◌, ◌<◌, Bool, true, false, cond, List, [], ◌∷◌, length, nat_lt}
 use Rattle.rules.specs.Entries.{Entry, is_optional}
 use Rattle.rules.specs.Keeping.{optionals, as_kept}
 

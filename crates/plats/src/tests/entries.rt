@@ -59,7 +59,7 @@ fn texts(rt: HostRuntime) {
 fn segments_are_given_out(rt: HostRuntime) -> Result<(), Fail> {
     let year = Segment::new(SegmentKind::OptionalParam, b"year")?;
     assert_eq!(rt; year.kind(), SegmentKind::OptionalParam);
-    assert_eq!(rt; year.text(), b"year");
+    assert_eq!(rt; year.text(), b"year".as_slice());
     assert_eq!(rt;
         year.record(),
         record_of(SegmentKind::OptionalParam, b"year")
