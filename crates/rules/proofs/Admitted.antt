@@ -1,6 +1,6 @@
 -- The first kept list that is read to an ending is the first that the path spells.
 use Rattle.std.proofs.Common.{◌≡◌, ℕ, zero, suc, ◌+◌, true, leb, List, [], ◌∷◌, ◌++◌, length, Some, None, Option, sym, refl, ap, ◌∙◌, arith}
-use Rattle.std.specs.List.{AllByRecursion as All}
+use Rattle.std.specs.List.{AllByRecursion}
 use Rattle.std.proofs.lemmas.Bool.{and_parts}
 use Rattle.rules.specs.Paths.{longest_path, rooted}
 use Rattle.rules.specs.Entries.{Entry, is_optional}
@@ -34,7 +34,7 @@ required_append [] fs a b = b
 required_append (e ∷ es) fs a b = (a.0, required_append es fs a.1 b)
 
 abbrev pub AllRequired : List KeptList → Type 0
-AllRequired ls = All (λ l. Required (entries_of l.routes)) ls
+AllRequired ls = AllByRecursion (λ l. Required (entries_of l.routes)) ls
 
 all_append : (ls ms : List KeptList) → AllRequired ls → AllRequired ms → AllRequired (ls ++ ms)
 all_append [] ms a b = b

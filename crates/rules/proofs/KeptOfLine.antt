@@ -1,7 +1,7 @@
 -- The kept lists of one line, by how a forest is put together.
 use Rattle.std.proofs.Common.{◌≡◌, ℕ, zero, suc, ◌+◌, ◌-◌, ◌*◌, ◌/◌, ◌%◌, ◌<◌, ◌≤◌, Bool, true, false, cond, eqb, List, [], ◌∷◌, ◌++◌, length, get_or, Some, None, Option, sym, refl, ap, ◌∙◌, subst, ⊎_elim, mod-eq_of_lt, add-mul, one-mul, arith, length-append}
 use native.Mathlib.Nat.{div-eq_of_lt, div-eq-sub-div, mod-eq-sub-mod}
-use Rattle.std.specs.List.{AllByRecursion as All}
+use Rattle.std.specs.List.{AllByRecursion}
 use Rattle.std.proofs.lemmas.List.{append_assoc, append-nil, get_or_append_left, get_or-append_right}
 use Rattle.std.proofs.lemmas.Bool.{eq-eqb, ne_eqb, cond-false, cases_Bool, cases_lt, eqb-true, eqb-false}
 use Rattle.rules.specs.Entries.{Entry, is_optional}
@@ -111,7 +111,7 @@ of_before j n (l ∷ ls) h = cond-false (eqb (n + l.line) j) _ (of_line j (after
 
 -- the lines of kept lists are below a count
 abbrev pub Within : ℕ → List KeptList → Type 0
-Within n ls = All (λ l. l.line < n) ls
+Within n ls = AllByRecursion (λ l. l.line < n) ls
 
 within_append : (n : ℕ) (ls ms : List KeptList) → Within n ls → Within n ms → Within n (ls ++ ms)
 within_append n [] ms a b = b

@@ -1,6 +1,6 @@
 -- Each kept list of a forest stands on the line of its number.
 use Rattle.std.proofs.Common.{◌≡◌, ℕ, zero, suc, ◌+◌, List, [], ◌∷◌, ◌++◌, length, get_or, sym, refl, ap, ◌∙◌, arith, length-append}
-use Rattle.std.specs.List.{AllByRecursion as All}
+use Rattle.std.specs.List.{AllByRecursion}
 use Rattle.std.proofs.lemmas.List.{get_or_append_left, get_or-append-add}
 use Rattle.rules.specs.Keeping.{optionals}
 use Rattle.rules.specs.Forests.{Route, none, leaf, nest}
@@ -9,7 +9,7 @@ use Rattle.rules.specs.KeptLists.{KeptList, keeping, under, each_keeping, kept_o
 use Rattle.rules.proofs.LinesMore.{under_length, under_at}
 
 abbrev On : List Line → List KeptList → Type 0
-On ls ks = All (OnLine ls) ks
+On ls ks = AllByRecursion (OnLine ls) ks
 
 on_append : (ls : List Line) (ks js : List KeptList) → On ls ks → On ls js → On ls (ks ++ js)
 on_append ls [] js a b = b

@@ -1,6 +1,6 @@
 -- A list reads a path to an ending just where the path spells it, and there is one way to spell it. By the laws of pieces alone.
 use Rattle.std.proofs.Common.{◌≡◌, ℕ, suc, true, false, List, [], ◌∷◌, ◌++◌, length, take, drop, is_some, Some, None, Option, sym, refl, ap, ◌∙◌, subst}
-use Rattle.std.specs.List.{AllByRecursion as All}
+use Rattle.std.specs.List.{AllByRecursion}
 use Rattle.std.proofs.lemmas.List.{drop_at, take_at, append_assoc}
 use Rattle.std.proofs.lemmas.Bool.{eqb-true, both_ways}
 use Rattle.rules.specs.Paths.{rooted, Ending, nothing, one_slash}
@@ -19,7 +19,7 @@ ReadThrough (e ∷ es) p = (t : Taken) × (taking e p ≡ Some t) × ReadThrough
 
 -- no entry is optional
 abbrev pub Required : List Entry → Type 0
-Required es = All (λ e. is_optional e ≡ false) es
+Required es = AllByRecursion (λ e. is_optional e ≡ false) es
 
 ending_rooted : {p : List ℕ} → Ending p → rooted p ≡ true
 ending_rooted nothing = refl

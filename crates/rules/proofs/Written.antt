@@ -1,6 +1,6 @@
 -- A path that is written with fitting values spells its list. By the entries' manners alone.
 use Rattle.std.proofs.Common.{◌≡◌, ℕ, zero, suc, ◌+◌, Bool, true, false, cond, ◌&&◌, leb, List, [], ◌∷◌, ◌++◌, length, Some, None, Option, sym, refl, ap, ◌∙◌, subst, ⊎_elim}
-use Rattle.std.specs.List.{AllByRecursion as All}
+use Rattle.std.specs.List.{AllByRecursion}
 use Rattle.std.proofs.lemmas.Bool.{cases_Bool, cond-true, and_parts, and_from, both_ways, le-leb}
 use Rattle.rules.specs.Paths.{longest_path, rooted, Ending, nothing, one_slash, slash}
 use Rattle.rules.specs.Entries.{Entry, is_optional, lawful_entry, lawful_entries}
@@ -91,7 +91,7 @@ written_spells (e ∷ es) vs l f = go (fit_manner e es vs l f) (written_spells e
 
 -- Each kept list of a lawful forest has lawful entries.
 abbrev AllLawful : List KeptList → Type 0
-AllLawful ls = All (λ l. lawful_entries (entries_of l.routes) ≡ true) ls
+AllLawful ls = AllByRecursion (λ l. lawful_entries (entries_of l.routes) ≡ true) ls
 
 lawful_append : (es fs : List Entry) → lawful_entries es ≡ true → lawful_entries fs ≡ true → lawful_entries (es ++ fs) ≡ true
 lawful_append [] fs a b = b

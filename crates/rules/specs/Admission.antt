@@ -1,6 +1,6 @@
 -- ADMISSION: which of some kept lists a path is admitted by.
 use Rattle.std.specs.Prelude.{◌≡◌, ℕ, true, ◌↔◌, List, ◌∷◌, ◌++◌, length, Some, None}
-use Rattle.std.specs.List.{AllByRecursion as All}
+use Rattle.std.specs.List.{AllByRecursion}
 use Rattle.rules.specs.Paths.{lawful, Ending}
 use Rattle.rules.specs.Entries.{Entry}
 use Rattle.rules.specs.Spelling.{Cut, Spells, joined}
@@ -24,7 +24,7 @@ pub data FirstSpelled (p : List ℕ) : List KeptList → KeptList → Type 0 whe
 
 -- a path spells none of them
 abbrev pub NoneSpelled : List ℕ → List KeptList → Type 0
-NoneSpelled p ls = All (λ l. Spelled p l → ⊥) ls
+NoneSpelled p ls = AllByRecursion (λ l. Spelled p l → ⊥) ls
 
 -- the answer of the first that is spelled
 abbrev pub FirstAnswer : List KeptList → List ℕ → Answer → Type 0

@@ -1,6 +1,6 @@
 -- THE KEPT LISTS of a forest.
 use Rattle.std.specs.Prelude.{◌≡◌, ℕ, zero, suc, ◌+◌, ◌<◌, cond, List, [], ◌∷◌, ◌++◌, length, ◌==◌, slice_index_or}
-use Rattle.std.specs.List.{AllByRecursion as All}
+use Rattle.std.specs.List.{AllByRecursion}
 use Rattle.rules.specs.Entries.{Entry}
 use Rattle.rules.specs.Keeping.{optionals, Numbered, kept_from, plainly}
 use Rattle.rules.specs.Forests.{Route, Forest, none, leaf, nest}
@@ -80,4 +80,4 @@ pub record OnLine (ls : List Line) (k : KeptList) : Type 0 where
 
 -- Each kept list of a forest stands on one of the forest's lines.
 abbrev pub KeptOnLines : Type 0
-KeptOnLines = (f : Forest) → All (OnLine (lines f)) (kept f)
+KeptOnLines = (f : Forest) → AllByRecursion (OnLine (lines f)) (kept f)

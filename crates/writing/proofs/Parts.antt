@@ -22,8 +22,8 @@ part_is xs start len from most f m =
     let n : most - 0 ≡ min len (length (drop start xs)) = omega (arith, m, ap length rest) in
     ap (λ k. take k (take (length xs - from) (drop from xs))) n ∙ ap (take (min len (length (drop start xs)))) rest ∙ take_least len (drop start xs)
 
-pub put_mid : (xs zs : List ℕ) (at : ℕ) → put_mid at (at + length zs - at) xs zs ≡ overwritten xs at zs
-put_mid xs zs at = ap (λ r. take at xs ++ (zs ++ r)) (drop-drop (at + length zs - at) at xs ∙ ap (λ n. drop n xs) (omega arith))
+pub put_mid_lem : (xs zs : List ℕ) (at : ℕ) → put_mid at (at + length zs - at) xs zs ≡ overwritten xs at zs
+put_mid_lem xs zs at = ap (λ r. take at xs ++ (zs ++ r)) (drop-drop (at + length zs - at) at xs ∙ ap (λ n. drop n xs) (omega arith))
 
 pub put_slash : (ys : List ℕ) (at x : ℕ) (xs : List ℕ) → at + 1 + length xs ≤ length ys → overwritten (set ys at x) (at + 1) xs ≡ overwritten ys at (x ∷ xs)
 put_slash ys at x xs room = ap (λ y. overwritten y (at + 1) xs) (overwritten_one ys at x (omega arith)) ∙ overwritten_then ys at (x ∷ []) xs room

@@ -95,7 +95,7 @@ chooses text ps vt rs n total own name h hn ho ht hm =
     let pos : 0 < L = others_there own L n lt in
     let apos : 0 < own = pos_left own L n lt in
     let left : total / own ≡ L = ap (λ k. k / own) long ∙ mul-div_cancel_left L apos in
-    let nth : get_or (path_choices vt rs (e ∷ es)) n [] ≡ get_or cs (n / L) None ∷ get_or yss (n % L) [] = each_nth None cs yss n pos (omega (arith, lt, ho, each_length cs yss)) in
+    let nth : get_or (path_choices vt rs (e ∷ es)) n [] ≡ get_or cs (n / L) None ∷ get_or yss (n % L) [] = each_nth None cs yss n pos (subst (λ k. n < k) (ap (λ k. k * L) ho ∙ sym (each_length cs yss)) lt) in
     record {
       own_pos = apos;
       left_pos = omega (arith, left, pos);

@@ -8,4 +8,4 @@ tested : (xs ys : List ℕ) (r : Bool) → Decides r (xs ≡ ys) → r ≡ bytes
 tested xs ys r h = search (rules, bytes_eq-Decides)
 
 pub returns : goal.returns
-returns c = tested _ _ _ (slice_eq-Decides Decides-eqb _ _ _ c.eq.ensures) ∙ ap (λ b. bytes_eq b c.args.name.now) c.part_at.ensures
+returns c = tested c.part_at.result.now c.args.name.now _ (slice_eq-Decides Decides-eqb _ _ _ c.eq.ensures) ∙ ap (λ b. bytes_eq b c.args.name.now) c.part_at.ensures

@@ -9,7 +9,7 @@ pub returns-then-left-eq0 : goal.returns-then-left-eq0
 returns-then-left-eq0 c =
     let text = c.args.text.now in
     let rs = c.args.values.now in
-    let i = c.loop-one.one_Index in
+    let i = c.loop-one.one-index in
     let ns = named_from text c.args.name.now i (drop i rs) in
     c.part_at.ensures ∙ ap (λ k. bytes_in text (get_or rs k no_value).value) (sym (sym c.loop-one.invariant.1 ∙ ap (λ n. get_or ns n 0) c.if-left-eq0.true ∙ ap (λ xs. get_or xs 0 0) (is_named_at text c.args.name.now rs i c.loop-one-test.true c.if-is_named.ensures)))
 
@@ -18,7 +18,7 @@ loop-one-preserved c =
     let text = c.args.text.now in
     let name = c.args.name.now in
     let rs = c.args.values.now in
-    let i = c.loop-one.one_Index in
+    let i = c.loop-one.one-index in
     elim c.if-is_named.branch [
       | then-is_named+else-left-eq0 w ↦
           let up : c.loop-one.left ≡ suc c.if-is_named.left = omega (arith, w.left-is, w.if-left-eq0.false) in
@@ -30,4 +30,4 @@ loop-one-preserved c =
     ]
 
 pub unreachable-requires : goal.unreachable-requires
-unreachable-requires c = absurd (omega (arith, c.loop-one.invariant.0, at_drop_all (λ rs. length (named_from c.args.text.now c.args.name.now c.loop-one.one_Index rs)) c.args.values.now c.loop-one.one_Index c.loop-one-test.false))
+unreachable-requires c = absurd (omega (arith, c.loop-one.invariant.0, at_drop_all (λ rs. length (named_from c.args.text.now c.args.name.now c.loop-one.one-index rs)) c.args.values.now c.loop-one.one-index c.loop-one-test.false))
