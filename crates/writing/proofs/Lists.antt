@@ -1,11 +1,11 @@
 -- Steps of the loops over a list that is handed over, and over a table of values.
-use Rattle.std.proofs.Common.{◌≡◌, ℕ, suc, ◌+◌, ◌*◌, ◌<◌, ◌≤◌, min, Bool, true, false, cond, ◌&&◌, ◌||◌, List, [], ◌∷◌, length, get_or, take, drop, Some, None, Option, sym, refl, ap, ◌∙◌, arith}
+use Rattle.std.proofs.Common.{◌≡◌, ℕ, suc, ◌+◌, ◌<◌, Bool, true, false, cond, ◌&&◌, List, ◌∷◌, length, get_or, take, drop, sym, ap, ◌∙◌, arith}
 use Rattle.std.specs.Str.{bytes_eq}
-use Rattle.std.proofs.lemmas.List.{at_drop_more, at_drop_all}
+use Rattle.std.proofs.lemmas.List.{at_drop_more}
 use Rattle.rules.specs.declared.segment.EntryPlace.{EntryPlace}
 use Rattle.rules.specs.declared.segment.SegmentKind.TheVariants.{Unit as AUnit}
 use Rattle.rules.specs.declared.values.ValueRecord.{ValueRecord}
-use Rattle.rules.specs.Entries.{Entry, is_optional}
+use Rattle.rules.specs.Entries.{is_optional}
 use Rattle.rules.specs.Keeping.{optionals}
 use Rattle.rules.specs.Places.{entry_of, entry_at, entries_in}
 use Rattle.rules.specs.Values.{bytes_in, named_from, no_value}

@@ -1,14 +1,13 @@
 -- The first entry of a list: how many choices it has, which of them a number takes, and what is left for the others.
-use Rattle.std.proofs.Common.{◌≡◌, ℕ, zero, suc, ◌+◌, ◌-◌, ◌*◌, ◌/◌, ◌%◌, ◌<◌, ◌≤◌, min, Bool, true, false, cond, not, ◌&&◌, List, [], ◌∷◌, ◌++◌, length, get_or, take, drop, Some, None, Option, sym, refl, ap, ◌∙◌, subst, ⊎_elim, mul-le-mul_right, mod-lt, mul_assoc, mul_comm, mul-zero, zero-mul, mul-one, arith}
+use Rattle.std.proofs.Common.{◌≡◌, ℕ, zero, suc, ◌+◌, ◌-◌, ◌*◌, ◌/◌, ◌%◌, ◌<◌, ◌≤◌, min, Bool, true, false, not, ◌&&◌, List, [], ◌∷◌, ◌++◌, length, get_or, take, drop, None, sym, refl, ap, ◌∙◌, subst, ⊎_elim, mul-le-mul_right, mod-lt, mul_assoc, mul_comm, mul-zero, zero-mul, arith}
 use native.Mathlib.Nat.{mul-div_cancel_left}
-use Rattle.std.proofs.lemmas.List.{take_rest, at_drop_more, at_drop_all}
+use Rattle.std.proofs.lemmas.List.{take_rest, at_drop_more}
 use Rattle.std.proofs.lemmas.Bool.{cases_lt, both_ways}
 use Rattle.rules.specs.declared.segment.SegmentKind.{SegmentKind}
 use Rattle.rules.specs.declared.segment.SegmentKind.TheVariants.{Unit as AUnit, Static, Param, OptionalParam, Splat}
 use Rattle.rules.specs.declared.segment.EntryPlace.{EntryPlace}
 use Rattle.rules.specs.declared.values.ValueRecord.{ValueRecord}
 use Rattle.rules.specs.Entries.{Entry}
-use Rattle.rules.specs.Choices.{choices, each_in_front}
 use Rattle.rules.specs.Places.{entry_of, entry_at, entries_in}
 use Rattle.rules.specs.Records.{kind_has_value}
 use Rattle.rules.specs.Values.{named_from, somes, choices_for, path_choices, value_of, values_of, path_values, bytes_in, no_value}

@@ -1,5 +1,5 @@
 -- WHAT THE CALLS OF WRITING TELL, and what they leave in their buffers.
-use Rattle.std.specs.Prelude.{◌≡◌, ℕ, ◌^◌, ◌<◌, ◌≤◌, min, Bool, true, false, cond, List, [], ◌∷◌, length, Some, None, Option, nat_le, nat_lt}
+use Rattle.std.specs.Prelude.{ℕ, ◌^◌, min, Bool, true, false, List, ◌∷◌, length, Some, None, Option, nat_le, nat_lt}
 use Rattle.rules.specs.declared.refusal.EntryFault.{EntryFault}
 use Rattle.rules.specs.declared.segment.EntryPlace.{EntryPlace}
 use Rattle.rules.specs.declared.segment.PathSegment.{PathSegment}

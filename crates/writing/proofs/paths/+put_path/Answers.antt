@@ -1,14 +1,13 @@
-use Rattle.std.proofs.Common.{◌≡◌, ℕ, ◌+◌, ◌-◌, ◌/◌, ◌%◌, ◌<◌, ◌≤◌, Bool, false, List, [], ◌∷◌, ◌++◌, length, get_or, take, drop, Some, None, Option, sym, refl, ap, ◌∙◌, subst, arith, length-drop}
+use Rattle.std.proofs.Common.{◌≡◌, ℕ, ◌-◌, ◌<◌, ◌≤◌, Bool, List, [], ◌∷◌, length, take, drop, Some, Option, sym, refl, ap, ◌∙◌, subst, arith, length-drop}
 use Rattle.std.proofs.lemmas.List.{take_rest}
 use Rattle.std.proofs.lemmas.Bool.{leb-true}
 use Rattle.rules.specs.declared.segment.EntryPlace.{EntryPlace}
 use Rattle.rules.specs.declared.values.ValueRecord.{ValueRecord}
-use Rattle.rules.specs.Places.{entry_of, entries_in}
+use Rattle.rules.specs.Places.{entries_in}
 use Rattle.rules.specs.Values.{path_values}
 use Rattle.rules.specs.Writing.{ends_slash, written_after}
 use Rattle.writing.specs.Told.{piece_bytes}
 use Rattle.writing.specs.Puts.{Put}
-use Rattle.writing.proofs.Lists.{no_place}
 use Rattle.writing.proofs.Parts.{put_none, put_unfit, put_break, put_more}
 use Rattle.writing.proofs.Steps.{chooses, writes}
 use Rattle.writing.proofs.paths.+put_path.Goals as goal

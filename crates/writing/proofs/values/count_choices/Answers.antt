@@ -1,4 +1,4 @@
-use Rattle.std.proofs.Common.{◌≡◌, ◌*◌, min, length, drop, sym, ap, ◌∙◌, mul-one, arith}
+use Rattle.std.proofs.Common.{◌≡◌, ◌*◌, min, length, sym, ap, ◌∙◌, mul-one, arith}
 use Rattle.std.proofs.lemmas.List.{at_drop_all}
 use Rattle.rules.specs.Places.{entries_in}
 use Rattle.rules.specs.Values.{path_choices}

@@ -1,4 +1,4 @@
-use Rattle.std.proofs.Common.{◌≤◌, cond, length, get_or, drop, arith}
+use Rattle.std.proofs.Common.{◌≤◌, cond, length, get_or, arith}
 use Rattle.std.specs.Str.{bytes_eq}
 use Rattle.std.proofs.lemmas.List.{at_drop_all}
 use Rattle.std.proofs.lemmas.Bool.{cond_both}

@@ -1,4 +1,4 @@
-use Rattle.std.proofs.Common.{◌≡◌, ◌+◌, ◌<◌, length, get_or, drop}
+use Rattle.std.proofs.Common.{◌≡◌, ◌<◌, length, get_or, drop}
 use Rattle.rules.specs.Values.{named_from}
 use Rattle.writing.proofs.values.nth_value.Given as goal
 

@@ -1,4 +1,4 @@
-use Rattle.std.proofs.Common.{◌≡◌, ◌+◌, ◌≤◌, length, sym, ap, ◌∙◌, arith}
+use Rattle.std.proofs.Common.{◌+◌, ◌≤◌, length, sym, ap, ◌∙◌, arith}
 use Rattle.rules.specs.Paths.{slash}
 use Rattle.rules.specs.Records.{overwritten}
 use Rattle.writing.specs.Told.{piece_bytes}
