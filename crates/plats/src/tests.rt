@@ -1,12 +1,12 @@
 // What routes answer on links of every sort, and what is refused.
 
-mod entries;
 mod firm;
 mod handed_over;
 mod kept_lists;
 mod lines;
 mod links;
-mod nests;
+mod lone_entries;
+mod nested_routes;
 mod outcome;
 mod own_match;
 mod parents;

@@ -5,14 +5,14 @@
 use firm::pages::pages;
 use index::print_index;
 use links::print_link;
-use rows::print_rows;
 use std::io::{BufRead, BufReader};
+use table_rows::print_rows;
 use trees::tree::MatchNestedRoutes;
 
 mod index;
 mod links;
-mod rows;
 mod shown;
+mod table_rows;
 
 // How many links came, and how many of them open a page.
 #[derive(Clone, Copy)]
