@@ -2,18 +2,14 @@
 // optional year and an optional sheet.
 use crate::texts::{Job, Parcel, Plan};
 use lists::chain::{Chain, End};
-use lists::kind_list::KindList;
 use lists::kinds;
 use nests::nested_route::NestedRoute;
 use rows::pair::Pair;
 use rules::records::RouteId;
 use rules::refusal::Refusal;
-use segments::as_path::AsPath;
-use segments::kind::PossibleRouteMatch;
 use segments::param_segments::{OptionalParamSegment, ParamSegment};
 use segments::static_segment::StaticSegment;
-use trees::below::{Below, Childless};
-use trees::tree::MatchNestedRoutes;
+use trees::below::Childless;
 
 pub type PlanPage = NestedRoute<Chain<StaticSegment<Plan>, End>, Childless>;
 

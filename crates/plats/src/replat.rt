@@ -1,14 +1,11 @@
 use crate::plat_segment::PlatSegment;
 use lists::chain::{Chain, End};
-use lists::kind_list::KindList;
 use lists::kinds;
 use nests::nested_route::NestedRoute;
 use rules::mode::SsrMode;
 use rules::records::RouteId;
 use rules::refusal::Refusal;
-use segments::kind::PossibleRouteMatch;
-use trees::below::{Below, Childless};
-use trees::tree::MatchNestedRoutes;
+use trees::below::Childless;
 
 // A list of the one word.
 pub type Word = Chain<PlatSegment, End>;

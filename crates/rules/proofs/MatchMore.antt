@@ -89,7 +89,7 @@ module _ (r : Route) (keep : ℕ) (below : List KeptList) (l p at : ℕ) (path :
           params = rw w (read ∙ ap (λ o. read_into o p ps') reads.1 ∙ ap (λ q. overwritten q p rs) wp ∙ overwritten_both ps p rs a.params fit');
         }
 
--- a leaf route has no route below it: what is left is an isEnding
+-- a leaf route has no route below it: what is left is an ending
 pub nothing_below : (l p lv at : ℕ) (path : List ℕ) (ls : List LevelRecord) (ps : List ParamRecord) → is_ending path ≡ true → Matched (first_read childless lv at path) l p (Some (l, p)) ls ls ps ps
 nothing_below l p lv at path ls ps e =
     let w : first_read childless lv at path ≡ Some (no_records) = ap (λ b. or_else (cond b (Some (no_records)) None) None) e in

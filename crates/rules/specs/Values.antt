@@ -1,5 +1,5 @@
 -- THE VALUES that paths are written with, and the paths of a list.
-use Rattle.std.specs.Prelude.{ℕ, ◌+◌, ◌-◌, Bool, cond, ◌||◌, List, [], ◌∷◌, length, get_or, take, drop, Some, None, Option, nat_lt, slice_index_or}
+use Rattle.std.specs.Prelude.{ℕ, ◌+◌, ◌-◌, Bool, cond, ◌||◌, List, [], ◌∷◌, length, take, drop, Some, None, Option, nat_lt, slice_index_or}
 use Rattle.std.specs.Str.{bytes_eq}
 use Rattle.rules.specs.declared.values.TextPlace.{TextPlace}
 use Rattle.rules.specs.declared.values.ValueRecord.{ValueRecord}
@@ -57,7 +57,7 @@ no_value = record { name = record { start = 0; len = 0 }; value = record { start
 
 abbrev pub value_of : List ℕ → List ValueRecord → Option ℕ → List ℕ
 value_of text rs None = []
-value_of text rs (Some i) = bytes_in text (get_or rs i no_value).value
+value_of text rs (Some i) = bytes_in text (slice_index_or rs i no_value).value
 
 abbrev pub values_of : List ℕ → List ValueRecord → List (Option ℕ) → List (List ℕ)
 values_of text rs [] = []

@@ -1,5 +1,5 @@
 -- WHAT generate_routes AND generate_kept ANSWER, and what they leave in their buffers.
-use Rattle.std.specs.Prelude.{◌≡◌, ℕ, ◌<◌, ◌≤◌, Bool, true, false, ◌&&◌, leb, List, length, get_or, nat_le, slice_index_or}
+use Rattle.std.specs.Prelude.{◌≡◌, ℕ, ◌<◌, ◌≤◌, Bool, true, false, ◌&&◌, List, length, nat_le, slice_index_or}
 use Rattle.rules.specs.declared.segment.PathSegment.{PathSegment}
 use Rattle.rules.specs.declared.records.LineRecord.{LineRecord}
 use Rattle.rules.specs.Forests.{Forest}
@@ -35,7 +35,7 @@ pub record Lined (f : Forest) (b : Bounds) (n : ℕ) (is : List ℕ) (es : List 
 
 -- KeptGiven f b j n es t es': the same for the kept list n of the line j, whose entries go into one buffer.
 pub record KeptGiven (f : Forest) (b : Bounds) (j n : ℕ) (es : List PathSegment) (t : Told ℕ) (es' : List PathSegment) : Type 0 where
-  pub short : leb b.entries (length es) ≡ false → (t ≡ refused (3, bare)) × (es' ≡ es)
-  pub missing : leb b.entries (length es) ≡ true → length (lines f) ≤ j → (t ≡ refused (13, bare)) × (es' ≡ es)
-  pub unkept : leb b.entries (length es) ≡ true → j < length (lines f) → length (of_line j (kept f)) ≤ n → (t ≡ refused (15, bare)) × (es' ≡ es)
-  pub found : leb b.entries (length es) ≡ true → j < length (lines f) → n < length (of_line j (kept f)) → (t ≡ answered (length (entries_of (get_or (of_line j (kept f)) n no_list).routes))) × (es' ≡ padded (records_of (entries_of (get_or (of_line j (kept f)) n no_list).routes)) zero_segment (length es))
+  pub short : nat_le b.entries (length es) ≡ false → (t ≡ refused (3, bare)) × (es' ≡ es)
+  pub missing : nat_le b.entries (length es) ≡ true → length (lines f) ≤ j → (t ≡ refused (13, bare)) × (es' ≡ es)
+  pub unkept : nat_le b.entries (length es) ≡ true → j < length (lines f) → length (of_line j (kept f)) ≤ n → (t ≡ refused (15, bare)) × (es' ≡ es)
+  pub found : nat_le b.entries (length es) ≡ true → j < length (lines f) → n < length (of_line j (kept f)) → (t ≡ answered (length (entries_of (slice_index_or (of_line j (kept f)) n no_list).routes))) × (es' ≡ padded (records_of (entries_of (slice_index_or (of_line j (kept f)) n no_list).routes)) zero_segment (length es))

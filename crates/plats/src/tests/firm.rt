@@ -1,19 +1,15 @@
 // The firm's routes as nests.
 use crate::tests::outcome::fixed;
 use lists::chain::{Chain, End};
-use lists::kind_list::KindList;
 use lists::kinds;
 use nests::nested_route::NestedRoute;
 use rows::pair::Pair;
 use rules::mode::SsrMode;
 use rules::records::RouteId;
 use rules::refusal::Refusal;
-use segments::as_path::AsPath;
-use segments::kind::PossibleRouteMatch;
 use segments::param_segments::{OptionalParamSegment, ParamSegment};
 use segments::static_segment::{StaticSegment, Text};
-use trees::below::{Below, Childless};
-use trees::tree::MatchNestedRoutes;
+use trees::below::Childless;
 
 // A childless route of one static text.
 pub type Word = NestedRoute<Chain<StaticSegment<Text>, End>, Childless>;

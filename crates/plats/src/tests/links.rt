@@ -1,25 +1,18 @@
 // The firm's links.
 use crate::tests::outcome::{admitted, check_links, declined, fixed};
-use lists::kind_list::KindList;
 use lists::kinds;
 use nests::nested_route::NestedRoute;
-use segments::as_path::AsPath;
-use segments::kind::PossibleRouteMatch;
 use segments::param_segments::OptionalParamSegment;
-use std::fmt::Debug;
 use std::test::Fail;
-use trees::below::Below;
-use trees::tree::MatchNestedRoutes;
 
 // `:client? parcel plan`
 #[test]
-fn client_links(rt: HostRuntime) -> Result<(), Fail> {
+fn client_links() -> Result<(), Fail> {
     let client = OptionalParamSegment::new(b"client")?;
     let route = NestedRoute::new(1, kinds![client, fixed(b"parcel")?, fixed(b"plan")?])?;
     let with_client = admitted(1, 17, &[(0, 1, 4)]);
     let without_client = admitted(1, 12, &[]);
     check_links(
-        &rt,
         &route,
         &[
             (b"/hill/parcel/plan", with_client),
@@ -36,18 +29,17 @@ fn client_links(rt: HostRuntime) -> Result<(), Fail> {
             (b"/", declined()),
             (b"", declined()),
         ],
-    );
+    )?;
     Ok(())
 }
 
 // `job :year? :sheet?`, where dropping the last may be enough
 #[test]
-fn job_links(rt: HostRuntime) -> Result<(), Fail> {
+fn job_links() -> Result<(), Fail> {
     let year = OptionalParamSegment::new(b"year")?;
     let sheet = OptionalParamSegment::new(b"sheet")?;
     let route = NestedRoute::new(3, kinds![fixed(b"job")?, year, sheet])?;
     check_links(
-        &rt,
         &route,
         &[
             (b"/job/2019/3", admitted(3, 11, &[(1, 5, 4), (2, 10, 1)])),
@@ -61,6 +53,6 @@ fn job_links(rt: HostRuntime) -> Result<(), Fail> {
             (b"/job/2019/3/4", declined()),
             (b"/jobs", declined()),
         ],
-    );
+    )?;
     Ok(())
 }

@@ -7,12 +7,11 @@ use std::test::Fail;
 
 // Each level reads on where the one above it ended.
 #[test]
-fn levels_read_on(rt: HostRuntime) -> Result<(), Fail> {
+fn levels_read_on() -> Result<(), Fail> {
     let client = (0, 0, 1, 4);
     let plan = nested(&[(1, 0, 5), (2, 5, 7), (3, 12, 5)], &[client]);
     let unnamed_plan = nested(&[(1, 0, 0), (2, 0, 7), (3, 7, 5)], &[]);
     check_links(
-        &rt,
         &clients()?,
         &[
             (b"/hill/parcel/plan", plan),
@@ -32,15 +31,14 @@ fn levels_read_on(rt: HostRuntime) -> Result<(), Fail> {
             (b"/hill/plan", declined()),
             (b"", declined()),
         ],
-    );
+    )?;
     Ok(())
 }
 
 // The client is `parcel`, where that suffices; where not, nothing of it is left in the records.
 #[test]
-fn client_is_tried_first(rt: HostRuntime) -> Result<(), Fail> {
+fn client_is_tried_first() -> Result<(), Fail> {
     check_links(
-        &rt,
         &clients()?,
         &[
             (
@@ -52,40 +50,38 @@ fn client_is_tried_first(rt: HostRuntime) -> Result<(), Fail> {
                 nested(&[(1, 0, 0), (2, 0, 7), (4, 7, 7)], &[(2, 0, 8, 6)]),
             ),
         ],
-    );
+    )?;
     Ok(())
 }
 
 // The first of a pair is preferred, also where both are lent.
 #[test]
-fn pairs_are_ordered(rt: HostRuntime) -> Result<(), Fail> {
+fn pairs_are_ordered() -> Result<(), Fail> {
     let clients = clients()?;
     let jobs = jobs()?;
     let job = nested(&[(5, 0, 16)], &[(0, 1, 5, 6), (0, 2, 12, 4)]);
     let plan = nested(&[(1, 0, 4), (2, 4, 7), (3, 11, 5)], &[(0, 0, 1, 3)]);
     let year = nested(&[(5, 0, 9)], &[(0, 1, 5, 4)]);
     check_links(
-        &rt,
         &Pair {
             first: &clients,
             second: &jobs,
         },
         &[(b"/job/parcel/plan", plan), (b"/job/2019", year)],
-    );
+    )?;
     check_links(
-        &rt,
         &Pair {
             first: jobs,
             second: clients,
         },
         &[(b"/job/parcel/plan", job), (b"/job/2019", year)],
-    );
+    )?;
     Ok(())
 }
 
 // Items of a row are tried one after another.
 #[test]
-fn rows_are_ordered(rt: HostRuntime) -> Result<(), Fail> {
+fn rows_are_ordered() -> Result<(), Fail> {
     let items = [
         word(1, b"hill")?.child(word(2, b"plan")?)?,
         word(3, b"dale")?.child(word(4, b"plan")?)?,
@@ -93,7 +89,6 @@ fn rows_are_ordered(rt: HostRuntime) -> Result<(), Fail> {
         word(7, b"dale")?.child(word(8, b"plan")?)?,
     ];
     check_links(
-        &rt,
         &Row { items: &items },
         &[
             (b"/hill/plan", nested(&[(1, 0, 5), (2, 5, 5)], &[])),
@@ -102,30 +97,28 @@ fn rows_are_ordered(rt: HostRuntime) -> Result<(), Fail> {
             (b"/dale/map", declined()),
             (b"/hill", declined()),
         ],
-    );
+    )?;
     Ok(())
 }
 
 // A route over no routes is not childless: it admits nothing.
 #[test]
-fn no_children(rt: HostRuntime) -> Result<(), Fail> {
+fn no_children() -> Result<(), Fail> {
     let items = [word(2, b"plan")?];
     let over_none = word(1, b"hill")?.child(Row {
         items: &items[0..0],
     })?;
     check_links(
-        &rt,
         &over_none,
         &[(b"/hill", declined()), (b"/hill/plan", declined())],
-    );
+    )?;
     let over_one = word(1, b"hill")?.child(Row { items: &items })?;
     check_links(
-        &rt,
         &over_one,
         &[
             (b"/hill", declined()),
             (b"/hill/plan", nested(&[(1, 0, 5), (2, 5, 5)], &[])),
         ],
-    );
+    )?;
     Ok(())
 }

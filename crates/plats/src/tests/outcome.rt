@@ -2,7 +2,7 @@
 use rules::records::{LevelRecord, ParamRecord, RouteId};
 use rules::refusal::Refusal;
 use segments::static_segment::{StaticSegment, Text};
-use std::process::Abort;
+use std::test::Fail;
 use trees::route::match_route;
 use trees::tree::MatchNestedRoutes;
 
@@ -141,8 +141,12 @@ pub fn refused(refusal: Refusal) -> Outcome {
 }
 
 // Each path of a table, with what it should bring about.
-pub fn check_links<T: MatchNestedRoutes>(rt: &impl Abort, tree: &T, links: &[(&[u8], Outcome)]) {
+pub fn check_links<T: MatchNestedRoutes>(tree: &T, links: &[(&[u8], Outcome)]) -> Result<(), Fail> {
     for (i, (path, outcome)) in links.iter().enumerate() {
-        assert_eq!(rt; matched(tree, path), *outcome, "link {i}");
+        let told = matched(tree, path);
+        if told != *outcome {
+            return Err(Fail::new(format_args!("link {i}: {told:?} in place of {outcome:?}")));
+        }
     }
+    Ok(())
 }

@@ -2,18 +2,12 @@
 use crate::tests::firm::word;
 use crate::tests::outcome::fixed;
 use entries::segment::Segment;
-use lists::kind_list::KindList;
 use lists::kinds;
 use nests::nested_route::NestedRoute;
 use rules::refusal::Refusal;
 use rules::segment::SegmentKind;
-use segments::as_path::AsPath;
-use segments::kind::PossibleRouteMatch;
 use segments::param_segments::OptionalParamSegment;
-use std::fmt::Debug;
 use std::test::Fail;
-use trees::below::Below;
-use trees::tree::MatchNestedRoutes;
 
 // An optional entry stands alone in a route that is given children; `()` is no entry, and a Unit is one.
 #[test]

@@ -1,40 +1,32 @@
 // Any bytes, paths that are too long, and paths that are not rooted.
 use crate::tests::outcome::{admitted, check_links, declined, fixed, refused};
-use lists::kind_list::KindList;
 use lists::kinds;
 use nests::nested_route::NestedRoute;
 use rules::refusal::Refusal;
-use segments::as_path::AsPath;
-use segments::kind::PossibleRouteMatch;
 use segments::param_segments::ParamSegment;
-use std::fmt::Debug;
 use std::test::Fail;
-use trees::below::Below;
-use trees::tree::MatchNestedRoutes;
 
 #[test]
-fn bytes_are_any(rt: HostRuntime) -> Result<(), Fail> {
+fn bytes_are_any() -> Result<(), Fail> {
     let lot = ParamSegment::new(b"\xff")?;
     check_links(
-        &rt,
         &NestedRoute::new(8, kinds![fixed(b"\xc3\x28")?, lot])?,
         &[
             (b"/\xc3\x28/\xfe\x00", admitted(8, 6, &[(1, 4, 2)])),
             (b"/\xc3\x29/\xfe\x00", declined()),
         ],
-    );
+    )?;
     Ok(())
 }
 
 // The length is told before the root.
 #[test]
-fn paths_are_lawful(rt: HostRuntime) -> Result<(), Fail> {
+fn paths_are_lawful() -> Result<(), Fail> {
     let bare = [b'9'; 2049];
     let mut path = [b'9'; 2049];
     path[0] = b'/';
     let lot = ParamSegment::new(b"lot")?;
     check_links(
-        &rt,
         &NestedRoute::new(9, kinds![lot])?,
         &[
             (&path[0..2048], admitted(9, 2048, &[(0, 1, 2047)])),
@@ -44,6 +36,6 @@ fn paths_are_lawful(rt: HostRuntime) -> Result<(), Fail> {
             (b"9", refused(Refusal::Unrooted)),
             (b"9/", refused(Refusal::Unrooted)),
         ],
-    );
+    )?;
     Ok(())
 }

@@ -1,16 +1,12 @@
 // The kind of this crate, alone and in lists with others.
 use crate::plat_segment::PlatSegment;
 use crate::tests::outcome::{admitted, check_links, declined};
-use lists::kind_list::KindList;
 use lists::kinds;
 use nests::nested_route::NestedRoute;
 use rules::segment::{PathSegment, SegmentKind};
 use segments::kind::PossibleRouteMatch;
 use segments::param_segments::{OptionalParamSegment, ParamSegment};
-use std::fmt::Debug;
 use std::test::Fail;
-use trees::below::Below;
-use trees::tree::MatchNestedRoutes;
 
 const PLAT: PlatSegment = PlatSegment { replat: false };
 
@@ -18,11 +14,10 @@ const REPLAT: PlatSegment = PlatSegment { replat: true };
 
 // `:client? plat :lot` and `:client? replat :lot`
 #[test]
-fn plat_links(rt: HostRuntime) -> Result<(), Fail> {
+fn plat_links() -> Result<(), Fail> {
     let client = OptionalParamSegment::new(b"client")?;
     let lot = ParamSegment::new(b"lot")?;
     check_links(
-        &rt,
         &NestedRoute::new(1, kinds![client, PLAT, lot])?,
         &[
             (b"/hill/plat/12", admitted(1, 13, &[(0, 1, 4), (2, 11, 2)])),
@@ -32,9 +27,8 @@ fn plat_links(rt: HostRuntime) -> Result<(), Fail> {
             (b"/plats/12", declined()),
             (b"/plat", declined()),
         ],
-    );
+    )?;
     check_links(
-        &rt,
         &NestedRoute::new(2, kinds![client, REPLAT, lot])?,
         &[
             (
@@ -44,7 +38,7 @@ fn plat_links(rt: HostRuntime) -> Result<(), Fail> {
             (b"/replat/12", admitted(2, 10, &[(2, 8, 2)])),
             (b"/plat/12", declined()),
         ],
-    );
+    )?;
     Ok(())
 }
 

@@ -1,16 +1,10 @@
 // Short buffers, and routes that are refused.
 use crate::tests::outcome::{admitted, declined, fixed, matched_in, refused};
-use lists::kind_list::KindList;
 use lists::kinds;
 use nests::nested_route::NestedRoute;
 use rules::refusal::{Cause, EntryFault, Refusal};
-use segments::as_path::AsPath;
-use segments::kind::PossibleRouteMatch;
 use segments::param_segments::OptionalParamSegment;
-use std::fmt::Debug;
 use std::test::Fail;
-use trees::below::Below;
-use trees::tree::MatchNestedRoutes;
 
 // A buffer needs as many records as the route has levels and entries, also where the answer has fewer.
 #[test]

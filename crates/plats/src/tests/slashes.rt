@@ -1,21 +1,14 @@
 // The bare slash, the empty static text, and no entries at all.
 use crate::tests::outcome::{admitted, check_links, declined, fixed};
-use lists::kind_list::KindList;
 use lists::kinds;
 use nests::nested_route::NestedRoute;
-use segments::as_path::AsPath;
-use segments::kind::PossibleRouteMatch;
 use segments::param_segments::OptionalParamSegment;
-use std::fmt::Debug;
 use std::test::Fail;
-use trees::below::Below;
-use trees::tree::MatchNestedRoutes;
 
 // A bare slash takes nothing, and asks for a byte that is still to come.
 #[test]
-fn bare_slash_stands_before(rt: HostRuntime) -> Result<(), Fail> {
+fn bare_slash_stands_before() -> Result<(), Fail> {
     check_links(
-        &rt,
         &NestedRoute::new(2, kinds![fixed(b"/")?, fixed(b"a")?])?,
         &[
             (b"/a", admitted(2, 2, &[])),
@@ -24,24 +17,22 @@ fn bare_slash_stands_before(rt: HostRuntime) -> Result<(), Fail> {
             (b"/", declined()),
             (b"", declined()),
         ],
-    );
+    )?;
     let lot = OptionalParamSegment::new(b"lot")?;
     check_links(
-        &rt,
         &NestedRoute::new(3, kinds![fixed(b"/")?, lot])?,
         &[
             (b"/7", admitted(3, 2, &[(1, 1, 1)])),
             (b"/", admitted(3, 1, &[])),
             (b"", declined()),
         ],
-    );
+    )?;
     Ok(())
 }
 
 #[test]
-fn bare_slash_stands_behind(rt: HostRuntime) -> Result<(), Fail> {
+fn bare_slash_stands_behind() -> Result<(), Fail> {
     check_links(
-        &rt,
         &NestedRoute::new(2, kinds![fixed(b"a")?, fixed(b"/")?])?,
         &[
             (b"/a", declined()),
@@ -49,9 +40,8 @@ fn bare_slash_stands_behind(rt: HostRuntime) -> Result<(), Fail> {
             (b"/a//", declined()),
             (b"/", declined()),
         ],
-    );
+    )?;
     check_links(
-        &rt,
         &NestedRoute::new(3, kinds![fixed(b"/")?])?,
         &[
             (b"/", admitted(3, 1, &[])),
@@ -60,15 +50,14 @@ fn bare_slash_stands_behind(rt: HostRuntime) -> Result<(), Fail> {
             (b"//", declined()),
             (b"", declined()),
         ],
-    );
+    )?;
     Ok(())
 }
 
 // A text's own leading slash is no other one; an empty text and `()` take nothing.
 #[test]
-fn texts_take_their_words(rt: HostRuntime) -> Result<(), Fail> {
+fn texts_take_their_words() -> Result<(), Fail> {
     check_links(
-        &rt,
         &NestedRoute::new(4, kinds![fixed(b"/plan")?, fixed(b"")?, ()])?,
         &[
             (b"/plan", admitted(4, 5, &[])),
@@ -76,15 +65,14 @@ fn texts_take_their_words(rt: HostRuntime) -> Result<(), Fail> {
             (b"//plan", declined()),
             (b"/", declined()),
         ],
-    );
+    )?;
     check_links(
-        &rt,
         &NestedRoute::new(5, kinds![])?,
         &[
             (b"", admitted(5, 0, &[])),
             (b"/", admitted(5, 0, &[])),
             (b"//", declined()),
         ],
-    );
+    )?;
     Ok(())
 }
