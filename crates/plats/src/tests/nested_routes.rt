@@ -31,8 +31,7 @@ fn levels_read_on() -> Result<(), Fail> {
             (b"/hill/plan", declined()),
             (b"", declined()),
         ],
-    )?;
-    Ok(())
+    )
 }
 
 // The client is `parcel`, where that suffices; where not, nothing of it is left in the records.
@@ -50,8 +49,7 @@ fn client_is_tried_first() -> Result<(), Fail> {
                 nested(&[(1, 0, 0), (2, 0, 7), (4, 7, 7)], &[(2, 0, 8, 6)]),
             ),
         ],
-    )?;
-    Ok(())
+    )
 }
 
 // The first of a pair is preferred, also where both are lent.
@@ -75,8 +73,7 @@ fn pairs_are_ordered() -> Result<(), Fail> {
             second: clients,
         },
         &[(b"/job/parcel/plan", job), (b"/job/2019", year)],
-    )?;
-    Ok(())
+    )
 }
 
 // Items of a row are tried one after another.
@@ -97,8 +94,7 @@ fn rows_are_ordered() -> Result<(), Fail> {
             (b"/dale/map", declined()),
             (b"/hill", declined()),
         ],
-    )?;
-    Ok(())
+    )
 }
 
 // A route over no routes is not childless: it admits nothing.
@@ -119,6 +115,5 @@ fn no_children() -> Result<(), Fail> {
             (b"/hill", declined()),
             (b"/hill/plan", nested(&[(1, 0, 5), (2, 5, 5)], &[])),
         ],
-    )?;
-    Ok(())
+    )
 }

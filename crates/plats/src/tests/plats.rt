@@ -38,8 +38,7 @@ fn plat_links() -> Result<(), Fail> {
             (b"/replat/12", admitted(2, 10, &[(2, 8, 2)])),
             (b"/plat/12", declined()),
         ],
-    )?;
-    Ok(())
+    )
 }
 
 // What it reads of a path: a slash and its word, where the path then ends or goes on with a slash.

@@ -26,8 +26,7 @@ fn bare_slash_stands_before() -> Result<(), Fail> {
             (b"/", admitted(3, 1, &[])),
             (b"", declined()),
         ],
-    )?;
-    Ok(())
+    )
 }
 
 #[test]
@@ -50,8 +49,7 @@ fn bare_slash_stands_behind() -> Result<(), Fail> {
             (b"//", declined()),
             (b"", declined()),
         ],
-    )?;
-    Ok(())
+    )
 }
 
 // A text's own leading slash is no other one; an empty text and `()` take nothing.
@@ -73,6 +71,5 @@ fn texts_take_their_words() -> Result<(), Fail> {
             (b"/", admitted(5, 0, &[])),
             (b"//", declined()),
         ],
-    )?;
-    Ok(())
+    )
 }
