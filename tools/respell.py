@@ -59,26 +59,21 @@ def turned(names):
     return new
 
 
-def antt(t, new):
-    out = []
-    for line in t.split("\n"):
-        m = re.search(r"(^|\s)--(\s|$)", line)
-        code, note = (line[: m.start()], line[m.start() :]) if m else (line, "")
-        code = "".join(TOKEN.sub(lambda k: new.get(k[0], k[0]), part) if i % 2 == 0 else part for i, part in enumerate(re.split(r'("[^"]*")', code)))
-        note = re.sub(r"`([^`]+)`", lambda k: "`" + new.get(k[1], k[1]) + "`", note)
-        out.append(code + note)
-    return "\n".join(out)
+# What begins a comment, and what a text looks like, in each sort of file. Code of .rt has no name with a capital inside or a dash of its
+# own, so those found there are words of clauses.
+COMMENT = {".antt": re.compile(r"(^|\s)--(\s|$)"), ".rt": re.compile(r"(^|\s)//")}
+TEXT = {".antt": re.compile(r'("[^"]*")'), ".rt": re.compile(r'(b?"(?:[^"\\]|\\.)*")')}
 
 
-def rt(t, new):
-    """Code of .rt has no name with a capital inside or a dash of its own, so these are words of clauses."""
+def respelled(t, new, sort):
+    name = lambda m: new.get(m[0], m[0])  # noqa: E731
     out = []
     for line in t.split("\n"):
-        m = re.search(r"(^|\s)//", line)
+        m = COMMENT[sort].search(line)
         code, note = (line[: m.start()], line[m.start() :]) if m else (line, "")
-        code = "".join(TOKEN.sub(lambda k: new.get(k[0], k[0]), part) if i % 2 == 0 else part for i, part in enumerate(re.split(r'(b?"(?:[^"\\]|\\.)*")', code)))
-        note = re.sub(r"`([^`]+)`", lambda k: "`" + new.get(k[1], k[1]) + "`", note)
-        out.append(code + note)
+        parts = TEXT[sort].split(code)
+        code = "".join(TOKEN.sub(name, it) if i % 2 == 0 else it for i, it in enumerate(parts))
+        out.append(code + re.sub(r"`([^`]+)`", lambda k: "`" + new.get(k[1], k[1]) + "`", note))
     return "\n".join(out)
 
 
@@ -91,7 +86,7 @@ def main(argv):
     n = 0
     for p in files(root):
         old = text(p)
-        t = (antt if p.endswith(".antt") else rt)(old, new)
+        t = respelled(old, new, os.path.splitext(p)[1])
         if t != old:
             n += 1
             with open(p, "w", encoding="utf-8") as f:
