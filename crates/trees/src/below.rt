@@ -1,4 +1,4 @@
-ghost use Rattle.std.specs.Prelude.{◌≡◌, ◌+◌, ◌^◌, ◌<◌, ◌≤◌, true, List, [], ◌∷◌, length, get_or, nat_le, slice_index_or};
+ghost use Rattle.std.specs.Prelude.{◌≡◌, ◌+◌, ◌^◌, ◌<◌, ◌≤◌, true, List, [], ◌∷◌, length, nat_le, slice_index_or};
 ghost use Rattle.rules.specs.Paths.{lawful};
 ghost use Rattle.rules.specs.Entries.{lawful_entries};
 ghost use Rattle.rules.specs.Forests.{Route, Forest, none, leaf, nest, lawful_forest};
@@ -90,7 +90,7 @@ pub trait Below {
     fn kept_below(&self, line: u32, n: u32, entries: &mut [PathSegment], e: usize) -> usize
         requires there { n < length (of_line line (lists self.now)) }
         requires wide { e + (bounds self.now).entries ≤ length entries.old }
-        ensures { KeptOut (get_or (of_line line (lists self.now)) n no_list).routes e result entries.old entries.new };
+        ensures { KeptOut (slice_index_or (of_line line (lists self.now)) n no_list).routes e result entries.old entries.new };
 }
 
 // A tree of routes below a route: the remainder of the path is handed on to it.

@@ -1,4 +1,4 @@
-ghost use Rattle.std.specs.Prelude.{◌≡◌, ◌+◌, ◌^◌, ◌<◌, ◌≤◌, true, length, get_or, nat_le, slice_index_or};
+ghost use Rattle.std.specs.Prelude.{◌≡◌, ◌+◌, ◌^◌, ◌<◌, ◌≤◌, true, length, nat_le, slice_index_or};
 ghost use Rattle.rules.specs.Paths.{lawful};
 ghost use Rattle.rules.specs.Forests.{Forest, lawful_forest};
 ghost use Rattle.rules.specs.KeptLists.{kept, of_line, no_list};
@@ -157,5 +157,5 @@ pub trait MatchNestedRoutes {
     fn kept_at(&self, line: u32, n: u32, entries: &mut [PathSegment], e: usize) -> usize
         requires there { n < length (of_line line (kept (routes self.now))) }
         requires wide { e + (bounds self.now).entries ≤ length entries.old }
-        ensures { KeptOut (get_or (of_line line (kept (routes self.now))) n no_list).routes e result entries.old entries.new };
+        ensures { KeptOut (slice_index_or (of_line line (kept (routes self.now))) n no_list).routes e result entries.old entries.new };
 }
