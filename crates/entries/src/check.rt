@@ -1,27 +1,22 @@
 ghost use Rattle.std.specs.Prelude.{◌≡◌};
-ghost use Rattle.std.specs.Option.{option_map};
 ghost use Rattle.std.specs.Result.{result_err};
 ghost use Rattle.rules.specs.Paths.{slash_free};
-ghost use Rattle.rules.specs.Places.{text_fault, name_fault, kind_fault, part_of, is_unit, place_fault, numbered_fault, list_fault};
+ghost use Rattle.rules.specs.Places.{text_fault, name_fault, kind_fault, is_unit};
 
 use crate::record::LONGEST_TEXT;
-use rules::refusal::{Cause, EntryFault};
-use rules::segment::{EntryPlace, SegmentKind};
+use rules::refusal::Cause;
+use rules::segment::SegmentKind;
 
 // The most entries of a route's list, and of any other list.
 pub const ROUTE_LIMIT: usize = 6;
 
 pub const LIST_LIMIT: usize = 96;
 
+#[tactic(auto, using(crate::proofs::SlashFree::slash_free_is))]
 fn is_slash_free(bytes: &[u8]) -> bool
     ensures { result ≡ slash_free bytes.now }
 {
-    for b in bytes {
-        if *b == b'/' {
-            return false;
-        }
-    }
-    true
+    !bytes.contains(&b'/')
 }
 
 // A static text has at most 24 bytes, and no slash after its first.
@@ -31,13 +26,9 @@ fn check_text(text: &[u8]) -> Result<(), Cause>
     if text.len() > LONGEST_TEXT {
         return Err(Cause::Length);
     }
-    let [_, rest @ ..] = text else {
-        return Ok(());
-    };
-    if is_slash_free(rest) {
-        Ok(())
-    } else {
-        Err(Cause::Slash)
+    match text {
+        [_, rest @ ..] if !is_slash_free(rest) => Err(Cause::Slash),
+        _ => Ok(()),
     }
 }
 
@@ -45,10 +36,9 @@ fn check_text(text: &[u8]) -> Result<(), Cause>
 fn check_name(name: &[u8]) -> Result<(), Cause>
     ensures { result_err result ≡ name_fault name.now }
 {
-    if name.len() >= 1 && name.len() <= LONGEST_TEXT {
-        Ok(())
-    } else {
-        Err(Cause::Length)
+    match name.len() {
+        1..=LONGEST_TEXT => Ok(()),
+        _ => Err(Cause::Length),
     }
 }
 
@@ -58,7 +48,7 @@ pub fn is_unit(kind: SegmentKind) -> bool
     matches!(kind, SegmentKind::Unit)
 }
 
-// What a kind asks of its text or name; a Unit has none.
+// What a kind asks of its text or name; a Unit has none. The two come apart until a `Segment` holds both.
 pub fn check_segment(kind: SegmentKind, text: &[u8]) -> Result<(), Cause>
     ensures { result_err result ≡ kind_fault kind text.now }
 {
@@ -67,54 +57,4 @@ pub fn check_segment(kind: SegmentKind, text: &[u8]) -> Result<(), Cause>
         SegmentKind::Static => check_text(text),
         SegmentKind::Param | SegmentKind::OptionalParam | SegmentKind::Splat => check_name(text),
     }
-}
-
-// The part of a text at a place, if it lies within it.
-fn part_of(text: &[u8], start: usize, len: usize) -> Option<&[u8]>
-    ensures { option_map (λ x. x.now) result ≡ part_of text.now start len }
-{
-    if start > text.len() || len > text.len() - start {
-        return None;
-    }
-    Some(&text[start..start + len])
-}
-
-// One entry that is handed over. A Unit's place is ignored.
-fn check_place(place: EntryPlace, text: &[u8]) -> Result<(), Cause>
-    ensures { result_err result ≡ place_fault text.now place }
-{
-    if is_unit(place.kind) {
-        return Ok(());
-    }
-    let Some(part) = part_of(text, place.start, place.len) else {
-        return Err(Cause::Place);
-    };
-    check_segment(place.kind, part)?;
-    Ok(())
-}
-
-// The same with the entry's number.
-fn check_entry(number: usize, place: EntryPlace, text: &[u8]) -> Result<(), EntryFault>
-    ensures { result_err result ≡ numbered_fault text.now number place }
-{
-    match check_place(place, text) {
-        Ok(()) => Ok(()),
-        Err(cause) => Err(EntryFault { number, cause }),
-    }
-}
-
-// A list that is handed over: no more entries than `limit`, and then each of them, the first at fault told.
-pub fn check_list(limit: usize, list: &[EntryPlace], text: &[u8]) -> Result<(), EntryFault>
-    ensures { result_err result ≡ list_fault limit text.now list.now }
-{
-    if list.len() > limit {
-        return Err(EntryFault {
-            number: limit,
-            cause: Cause::Count,
-        });
-    }
-    for (i, place) in list.iter().enumerate() {
-        check_entry(i, *place, text)?;
-    }
-    Ok(())
 }

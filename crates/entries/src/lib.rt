@@ -2,6 +2,9 @@
 #![tactic(auto)]
 
 pub mod check;
+pub mod filled;
+pub mod list;
 pub mod path;
 pub mod record;
+pub mod rest;
 pub mod segment;

@@ -2,6 +2,7 @@ ghost use Rattle.std.specs.Prelude.{◌≡◌, take, slice_set};
 ghost use Rattle.rules.specs.Entries.{longest_text};
 ghost use Rattle.rules.specs.Records.{record_with, kind_has_value, record_is_bare, kind_as_kept};
 
+use crate::filled::filled;
 use rules::segment::{PathSegment, SegmentKind};
 
 // The most bytes of a text or a name.
@@ -11,23 +12,20 @@ pub const LONGEST_TEXT: usize = 24;
 pub fn record_of(kind: SegmentKind, text: &[u8]) -> PathSegment
     ensures { result ≡ record_with kind (take longest_text text.now) }
 {
-    let len = text.len().min(LONGEST_TEXT);
-    let mut bytes = [0u8; 24];
-    bytes[0..len].copy_from_slice(&text[0..len]);
     PathSegment {
         kind,
-        len: len as u8,
-        text: bytes,
+        len: LONGEST_TEXT.min(text.len()) as u8,
+        text: filled(text, 0),
     }
 }
 
-// Puts one record behind the `at` records of a buffer, if that has room, and answers how many there are: 1.
-pub fn append_record(path: &mut [PathSegment], at: usize, segment: PathSegment) -> usize
+// Puts one record at the front of a buffer, if that has room, and answers how many there are: 1, as a kind answers it.
+pub fn put_record(path: &mut [PathSegment], segment: PathSegment) -> usize
     ensures count { result ≡ 1 }
-    ensures entries { path.new ≡ slice_set path.old at segment }
+    ensures entries { path.new ≡ slice_set path.old 0 segment }
 {
-    if at < path.len() {
-        path[at] = segment;
+    if let [first, ..] = path {
+        *first = segment;
     }
     1
 }
@@ -56,9 +54,9 @@ pub fn record_is_bare(segment: PathSegment) -> bool
 pub fn kept_record(segment: PathSegment) -> PathSegment
     ensures { result ≡ record { kind = kind_as_kept segment.kind; len = segment.len; text = segment.text } }
 {
-    let mut kept = segment;
-    if let SegmentKind::OptionalParam = segment.kind {
-        kept.kind = SegmentKind::Param;
-    }
-    kept
+    let kind = match segment.kind {
+        SegmentKind::OptionalParam => SegmentKind::Param,
+        kind => kind,
+    };
+    PathSegment { kind, ..segment }
 }

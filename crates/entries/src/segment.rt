@@ -1,6 +1,6 @@
 ghost use Rattle.std.specs.Prelude.{◌≡◌, ◌≤◌, true, IfOk};
 ghost use Rattle.rules.specs.Entries.{lawful_entry};
-ghost use Rattle.rules.specs.Records.{kind_number, record_of, text_in};
+ghost use Rattle.rules.specs.Records.{record_of, text_in};
 ghost use Rattle.rules.specs.Refusals.{told, read_off};
 ghost use Rattle.rules.specs.Places.{entry_in, entry_made, fault_alone};
 
@@ -37,12 +37,9 @@ impl Segment {
     // The same for an entry that is handed over alone: refusal 9, with number 0 and the cause.
     pub fn alone(kind: SegmentKind, text: &[u8]) -> Result<Segment, Refusal>
         ensures made { told (read_off (λ s. entry_in s.given) result) ≡ fault_alone (entry_made kind text.now) }
-        ensures kind { IfOk result (λ s. kind_number s.given.kind ≡ kind_number kind) }
+        ensures kind { IfOk result (λ s. s.given.kind ≡ kind) }
     {
-        match Segment::new(kind, text) {
-            Ok(segment) => Ok(segment),
-            Err(cause) => Err(Refusal::BadEntry(EntryFault { number: 0, cause })),
-        }
+        Segment::new(kind, text).map_err(|cause| Refusal::BadEntry(EntryFault { number: 0, cause }))
     }
 
     // The record that is given out.
@@ -64,6 +61,6 @@ impl Segment {
         ensures { result.now ≡ text_in self.now.given }
     {
         let len = self.given.len as usize;
-        &self.given.text[0..len]
+        &self.given.text[..len]
     }
 }

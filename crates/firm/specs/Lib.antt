@@ -1,1 +1,4 @@
 pub mod Firm
+pub mod Names
+pub mod Links
+pub mod Outcomes

@@ -1,4 +1,5 @@
-// The fixed texts of the firm's pages.
+// The fixed texts of the firm's pages. Each is a type with an impl of its own: a text is no const parameter, and one generic type
+// would ask a marker with an impl for each text as well.
 ghost use Rattle.std.specs.Prelude.{codes, refl};
 
 use segments::as_path::AsPath;

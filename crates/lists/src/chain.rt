@@ -2,9 +2,9 @@ ghost use Rattle.std.specs.Prelude.{[], refl};
 ghost use Rattle.rules.specs.Entries.{with_entry};
 ghost use Rattle.rules.proofs.Lawfully.{with_lawful};
 
-use crate::kept::{still_kept, test_kept, value_count};
+use crate::kept::{put_kept, still_kept, test_kept, value_count};
 use crate::kind_list::KindList;
-use entries::record::kept_record;
+use entries::rest::Rest;
 use rules::records::ParamRecord;
 use rules::segment::PathSegment;
 use segments::kind::PossibleRouteMatch;
@@ -50,29 +50,27 @@ impl KindList for End {
         0
     }
 
-    fn take(&self, _keep: usize, _path: &[u8]) -> Option<(usize, usize)> {
+    fn take(&self, _keep: usize, _rest: Rest<'_>) -> Option<(usize, usize)> {
         Some((0, 0))
     }
 
     fn read(
         &self,
         _keep: usize,
-        _path: &[u8],
+        _rest: Rest<'_>,
         _number: usize,
         _level: usize,
-        _at: usize,
         _params: &mut [ParamRecord],
-        _p: usize,
-    ) -> bool {
-        true
+    ) -> Option<()> {
+        Some(())
     }
 
-    fn generate(&self, _out: &mut [PathSegment], at: usize) -> usize {
-        at
+    fn generate(&self, _out: &mut [PathSegment]) -> usize {
+        0
     }
 
-    fn generate_kept(&self, _keep: usize, _out: &mut [PathSegment], at: usize) -> usize {
-        at
+    fn generate_kept(&self, _keep: usize, _out: &mut [PathSegment]) -> usize {
+        0
     }
 }
 
@@ -82,12 +80,8 @@ impl<K: PossibleRouteMatch, R: KindList> KindList for Chain<K, R> {
     ghost abides = { λ s. with_lawful (K.PossibleRouteMatch.meaning s.head) (R.KindList.entries s.tail) (K.PossibleRouteMatch.abides s.head) (R.KindList.abides s.tail) };
 
     fn room_after(&self, room: usize) -> Option<usize> {
-        let own = self.head.entry_count();
-        if own <= room {
-            self.tail.room_after(room - own)
-        } else {
-            None
-        }
+        self.tail
+            .room_after(room.checked_sub(self.head.entry_count())?)
     }
 
     fn has_bare(&self) -> bool {
@@ -99,20 +93,17 @@ impl<K: PossibleRouteMatch, R: KindList> KindList for Chain<K, R> {
     }
 
     fn optional_count(&self) -> usize {
-        let n = self.tail.optional_count();
-        if self.head.optional() {
-            n.saturating_add(1)
-        } else {
-            n
-        }
+        self.tail
+            .optional_count()
+            .saturating_add(usize::from(self.head.optional()))
     }
 
-    fn take(&self, keep: usize, path: &[u8]) -> Option<(usize, usize)> {
+    fn take(&self, keep: usize, rest: Rest<'_>) -> Option<(usize, usize)> {
         let Some(left) = still_kept(self.head.optional(), keep) else {
-            return self.tail.take(0, path);
+            return self.tail.take(0, rest);
         };
-        let (taken, _, _) = test_kept(&self.head, path)?;
-        let (more, values) = self.tail.take(left, &path[taken..])?;
+        let (taken, _, _) = test_kept(&self.head, rest.bytes())?;
+        let (more, values) = self.tail.take(left, rest.behind(taken))?;
         let own = value_count(&self.head);
         Some((taken + more, values + own))
     }
@@ -120,58 +111,40 @@ impl<K: PossibleRouteMatch, R: KindList> KindList for Chain<K, R> {
     fn read(
         &self,
         keep: usize,
-        path: &[u8],
+        rest: Rest<'_>,
         number: usize,
         level: usize,
-        at: usize,
         params: &mut [ParamRecord],
-        p: usize,
-    ) -> bool {
+    ) -> Option<()> {
         let next = number + self.head.entry_count();
         let Some(left) = still_kept(self.head.optional(), keep) else {
-            return self.tail.read(0, path, next, level, at, params, p);
+            return self.tail.read(0, rest, next, level, params);
         };
-        let Some((taken, start, len)) = test_kept(&self.head, path) else {
-            return false;
-        };
+        let (taken, start, len) = test_kept(&self.head, rest.bytes())?;
         let own = value_count(&self.head);
-        if !self.tail.read(
-            left,
-            &path[taken..],
-            next,
-            level,
-            at + taken,
-            params,
-            p + own,
-        ) {
-            return false;
+        self.tail
+            .read(left, rest.behind(taken), next, level, &mut params[own..])?;
+        if own > 0 {
+            params[0] = ParamRecord {
+                level,
+                entry: number,
+                start: rest.start() + start,
+                len,
+            };
         }
-        if own == 0 {
-            return true;
-        }
-        params[p] = ParamRecord {
-            level,
-            entry: number,
-            start: at + start,
-            len,
-        };
-        true
+        Some(())
     }
 
-    fn generate(&self, out: &mut [PathSegment], at: usize) -> usize {
-        let own = self.head.generate_path(out, at);
-        self.tail.generate(out, at + own)
+    fn generate(&self, out: &mut [PathSegment]) -> usize {
+        let own = self.head.generate_path(out);
+        own + self.tail.generate(&mut out[own..])
     }
 
-    fn generate_kept(&self, keep: usize, out: &mut [PathSegment], at: usize) -> usize {
+    fn generate_kept(&self, keep: usize, out: &mut [PathSegment]) -> usize {
         let Some(left) = still_kept(self.head.optional(), keep) else {
-            return self.tail.generate_kept(0, out, at);
+            return self.tail.generate_kept(0, out);
         };
-        let own = self.head.generate_path(out, at);
-        if own == 0 {
-            return self.tail.generate_kept(left, out, at);
-        }
-        out[at] = kept_record(out[at]);
-        self.tail.generate_kept(left, out, at + 1)
+        let own = put_kept(&self.head, out);
+        own + self.tail.generate_kept(left, &mut out[own..])
     }
 }

@@ -1,11 +1,11 @@
 ghost use Rattle.std.specs.Prelude.{◌≡◌, ◌+◌, ◌^◌, ◌<◌, ◌≤◌, true, List, length, is_some};
-ghost use Rattle.rules.specs.Paths.{lawful};
 ghost use Rattle.rules.specs.Entries.{Entry, lawful_entries};
 ghost use Rattle.rules.specs.Keeping.{optionals, kept_from, has_optional};
 ghost use Rattle.rules.specs.Numbers.{capped};
-ghost use Rattle.rules.specs.Records.{records_of, overwritten};
+ghost use Rattle.rules.specs.Records.{records_of, overlaid};
 ghost use Rattle.rules.specs.Steps.{kept_entries, has_bare, list_takes, list_reads, read_into, room_after};
 
+use entries::rest::Rest;
 use rules::records::ParamRecord;
 use rules::segment::PathSegment;
 
@@ -33,39 +33,34 @@ pub trait KindList {
         ensures { result ≡ capped (optionals (entries self.now)) };
 
     // How many bytes and how many values the list takes with `keep` of its optional entries kept, or None where one refuses.
-    fn take(&self, keep: usize, path: &[u8]) -> Option<(usize, usize)>
-        requires few { length (entries self.now) < 2 ^ 64 }
-        requires rooted { lawful path.now ≡ true }
-        ensures { result ≡ list_takes (kept_entries keep (entries self.now)) path.now };
+    fn take(&self, keep: usize, rest: Rest<'_>) -> Option<(usize, usize)>
+        requires { length (entries self.now) < 2 ^ 64 }
+        ensures { result ≡ list_takes (kept_entries keep (entries self.now)) rest.entry.bytes.now };
 
-    // Writes the records of the values from `params[p]` on, and answers true; where the list refuses the path, it changes
-    // nothing and answers false. The entries are numbered from `number`, and `path` starts at `at`.
+    // Writes the records of the values over the front of `params`, or nothing and answers None where the list refuses the path. The
+    // entries are numbered from `number`.
     fn read(
         &self,
         keep: usize,
-        path: &[u8],
+        rest: Rest<'_>,
         number: usize,
         level: usize,
-        at: usize,
         params: &mut [ParamRecord],
-        p: usize,
-    ) -> bool
-        requires rooted { lawful path.now ≡ true }
-        requires room { p + length (entries self.now) ≤ length params.old }
+    ) -> Option<()>
+        requires room { length (entries self.now) ≤ length params.old }
         requires numbered { number + length (entries self.now) < 2 ^ 64 }
-        requires placed { at + length path.now < 2 ^ 64 }
-        ensures test { result ≡ is_some (list_reads (kept_from number keep (entries self.now)) level at path.now) }
-        ensures written { params.new ≡ read_into (list_reads (kept_from number keep (entries self.now)) level at path.now) p params.old };
+        ensures test { is_some result ≡ is_some (list_reads (kept_from number keep (entries self.now)) level rest.entry.start rest.entry.bytes.now) }
+        ensures written { params.new ≡ read_into (list_reads (kept_from number keep (entries self.now)) level rest.entry.start rest.entry.bytes.now) params.old };
 
-    // Writes the entries' records from `out[at]` on, and answers where they end.
-    fn generate(&self, out: &mut [PathSegment], at: usize) -> usize
-        requires { at + length (entries self.now) ≤ length out.old }
-        ensures end { result ≡ at + length (entries self.now) }
-        ensures written { out.new ≡ overwritten out.old at (records_of (entries self.now)) };
+    // Writes the entries' records over the front of a buffer, and answers how many they are.
+    fn generate(&self, out: &mut [PathSegment]) -> usize
+        requires { length (entries self.now) ≤ length out.old }
+        ensures count { result ≡ length (entries self.now) }
+        ensures written { out.new ≡ overlaid out.old (records_of (entries self.now)) };
 
     // The same with `keep` of the optional entries kept, as parameters, and the others dropped.
-    fn generate_kept(&self, keep: usize, out: &mut [PathSegment], at: usize) -> usize
-        requires { at + length (entries self.now) ≤ length out.old }
-        ensures end { result ≡ at + length (kept_entries keep (entries self.now)) }
-        ensures written { out.new ≡ overwritten out.old at (records_of (kept_entries keep (entries self.now))) };
+    fn generate_kept(&self, keep: usize, out: &mut [PathSegment]) -> usize
+        requires { length (entries self.now) ≤ length out.old }
+        ensures count { result ≡ length (kept_entries keep (entries self.now)) }
+        ensures written { out.new ≡ overlaid out.old (records_of (kept_entries keep (entries self.now))) };
 }

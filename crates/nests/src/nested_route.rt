@@ -1,20 +1,19 @@
-ghost use Rattle.std.specs.Prelude.{◌≡◌, ◌+◌, ◌^◌, ◌<◌, ◌≤◌, true, not, ◌&&◌, length, ◌==◌};
-ghost use Rattle.rules.specs.declared.mode.SsrMode.TheVariants.{OutOfOrder};
-ghost use Rattle.rules.specs.Paths.{lawful};
+ghost use Rattle.std.specs.Prelude.{◌≡◌, ◌+◌, ◌^◌, ◌<◌, ◌≤◌, length};
 ghost use Rattle.rules.specs.Forests.{route_of};
 ghost use Rattle.rules.specs.KeptLists.{keeping, under};
 ghost use Rattle.rules.specs.Bounds.{level_over};
 ghost use Rattle.rules.specs.Answers.{part_length};
-ghost use Rattle.rules.specs.Modes.{is_static};
 ghost use Rattle.rules.specs.Lines.{hook_of};
-ghost use Rattle.rules.specs.Records.{overwritten};
+ghost use Rattle.rules.specs.Records.{overlaid};
 ghost use Rattle.rules.specs.Refusals.{told, read_off};
 ghost use Rattle.rules.specs.Steps.{has_bare, first_read, Matched};
 ghost use Rattle.nests.specs.Making.{route_made, nest_made};
+ghost use Rattle.nests.specs.Own.{own_route};
 
 use entries::check::ROUTE_LIMIT;
+use entries::rest::Rest;
 use lists::kind_list::KindList;
-use rules::mode::SsrMode;
+use rules::mode::{Rendering, SsrMode};
 use rules::records::{LevelRecord, LineRecord, ParamRecord, RouteId};
 use rules::refusal::{Cause, EntryFault, Refusal};
 use rules::segment::PathSegment;
@@ -29,8 +28,7 @@ pub const LEVEL_LIMIT: usize = 16;
 pub struct NestedRoute<L, C> {
     id: RouteId,
     list: L,
-    mode: SsrMode,
-    hook: u16,
+    rendering: Rendering,
     children: C,
 }
 
@@ -38,7 +36,7 @@ impl<L: KindList + Drop> NestedRoute<L, Childless> {
     // A childless route with the mode OutOfOrder and no hook. Refusal 5 where the id is 0, and 9 where the list has more than 6
     // entries.
     pub fn new(id: RouteId, list: L) -> Result<NestedRoute<L, Childless>, Refusal>
-        ensures { told (read_off (λ s. route_of s.id (L.KindList.entries s.list) s.mode s.hook) result) ≡ route_made id (L.KindList.entries list) }
+        ensures { told (read_off (own_route L.KindList.entries) result) ≡ route_made id (L.KindList.entries list) }
     {
         if id == 0 {
             return Err(Refusal::BadId);
@@ -52,29 +50,18 @@ impl<L: KindList + Drop> NestedRoute<L, Childless> {
         Ok(NestedRoute {
             id,
             list,
-            mode: SsrMode::OutOfOrder,
-            hook: 0,
+            rendering: Rendering::PLAIN,
             children: Childless,
         })
     }
 
     // The same route with a mode and a hook, which counts only under Static. They are set before the children are given.
     pub fn ssr_mode(self, mode: SsrMode, hook: u16) -> NestedRoute<L, Childless>
-        ensures { route_of result.id (L.KindList.entries result.list) result.mode result.hook ≡ route_of self.id (L.KindList.entries self.list) mode hook }
+        ensures { own_route L.KindList.entries result ≡ route_of self.id (L.KindList.entries self.list) mode hook }
     {
-        let NestedRoute {
-            id,
-            list,
-            mode: _,
-            hook: _,
-            children: Childless,
-        } = self;
         NestedRoute {
-            id,
-            list,
-            mode,
-            hook,
-            children: Childless,
+            rendering: Rendering { mode, hook },
+            ..self
         }
     }
 
@@ -84,13 +71,13 @@ impl<L: KindList + Drop> NestedRoute<L, Childless> {
         self,
         children: C,
     ) -> Result<NestedRoute<L, C>, Refusal>
-        ensures { told (read_off (λ s. (route_of s.id (L.KindList.entries s.list) s.mode s.hook, C.MatchNestedRoutes.routes s.children)) result) ≡ nest_made (route_of self.id (L.KindList.entries self.list) self.mode self.hook) (C.MatchNestedRoutes.routes children) (C.MatchNestedRoutes.bounds children) }
+        ensures { told (read_off (λ s. (own_route L.KindList.entries s, C.MatchNestedRoutes.routes s.children)) result) ≡ nest_made (own_route L.KindList.entries self) (C.MatchNestedRoutes.routes children) (C.MatchNestedRoutes.bounds children) }
     {
+        // taken apart, since the route over children is of another type
         let NestedRoute {
             id,
             list,
-            mode,
-            hook,
+            rendering,
             children: Childless,
         } = self;
         if !children.fits_levels(LEVEL_LIMIT - 1) {
@@ -102,8 +89,7 @@ impl<L: KindList + Drop> NestedRoute<L, Childless> {
         Ok(NestedRoute {
             id,
             list,
-            mode,
-            hook,
+            rendering,
             children,
         })
     }
@@ -120,27 +106,18 @@ fn part_len<L: KindList>(list: &L, taken: usize) -> usize
     }
 }
 
-// Whether a hook counts: under Static, and not 0.
-fn hook_counts(mode: SsrMode, hook: u16) -> bool
-    ensures { result ≡ (is_static mode && not (hook == 0)) }
+// Puts a route's hook at the front of a buffer, if it counts, and answers how many hooks that are.
+fn put_hook(rendering: Rendering, hooks: &mut [u16]) -> usize
+    requires { 0 < length hooks.old }
+    ensures count { result ≡ length (hook_of rendering.mode rendering.hook) }
+    ensures written { hooks.new ≡ overlaid hooks.old (hook_of rendering.mode rendering.hook) }
 {
-    match mode {
-        SsrMode::Static => hook != 0,
-        _ => false,
-    }
-}
-
-// Writes a route's hook at `hooks[h]`, if it counts, and answers where the hooks end then.
-fn put_hook(mode: SsrMode, hook: u16, hooks: &mut [u16], h: usize) -> usize
-    requires { h < length hooks.old }
-    ensures end { result ≡ h + length (hook_of mode hook) }
-    ensures written { hooks.new ≡ overwritten hooks.old h (hook_of mode hook) }
-{
-    if hook_counts(mode, hook) {
-        hooks[h] = hook;
-        h + 1
-    } else {
-        h
+    match rendering.counted_hook() {
+        Some(hook) => {
+            hooks[0] = hook;
+            1
+        }
+        None => 0,
     }
 }
 
@@ -150,77 +127,69 @@ impl<L: KindList, C: Below> NestedRoute<L, C> {
     fn match_keeping(
         &self,
         keep: usize,
-        path: &[u8],
-        at: usize,
+        rest: Rest<'_>,
+        level: usize,
         levels: &mut [LevelRecord],
         params: &mut [ParamRecord],
-        l: usize,
-        p: usize,
     ) -> Option<(usize, usize)>
-        requires rooted { lawful path.now ≡ true }
-        requires placed { at + length path.now < 2 ^ 64 }
-        requires deep { l + (level_over (length (L.KindList.entries self.now.list)) (C.Below.bounds self.now.children)).levels ≤ length levels.old }
-        requires wide { p + (level_over (length (L.KindList.entries self.now.list)) (C.Below.bounds self.now.children)).entries ≤ length params.old }
-        ensures { Matched (first_read (under (keeping (route_of self.now.id (L.KindList.entries self.now.list) self.now.mode self.now.hook) keep) (C.Below.lists self.now.children)) l at path.now) l p result levels.old levels.new params.old params.new }
+        requires numbered { level + (level_over (length (L.KindList.entries self.now.list)) (C.Below.bounds self.now.children)).levels < 2 ^ 64 }
+        requires deep { (level_over (length (L.KindList.entries self.now.list)) (C.Below.bounds self.now.children)).levels ≤ length levels.old }
+        requires wide { (level_over (length (L.KindList.entries self.now.list)) (C.Below.bounds self.now.children)).entries ≤ length params.old }
+        ensures { Matched (first_read (under (keeping (own_route L.KindList.entries self.now) keep) (C.Below.lists self.now.children)) level rest.entry.start rest.entry.bytes.now) result levels.old levels.new params.old params.new }
     {
-        let (taken, values) = self.list.take(keep, path)?;
-        let used = self.children.match_below(
-            &path[taken..],
-            at + taken,
-            levels,
-            params,
-            l + 1,
-            p + values,
+        let (taken, values) = self.list.take(keep, rest)?;
+        let (routes, more) = self.children.match_below(
+            rest.behind(taken),
+            level + 1,
+            &mut levels[1..],
+            &mut params[values..],
         )?;
-        let _ = self.list.read(keep, path, 0, l, at, params, p);
-        levels[l] = LevelRecord {
+        let _ = self.list.read(keep, rest, 0, level, params);
+        levels[0] = LevelRecord {
             id: self.id,
-            start: at,
+            start: rest.start(),
             len: part_len(&self.list, taken),
         };
-        Some(used)
+        Some((routes + 1, more + values))
     }
 }
 
 impl<L: KindList, C: Below> MatchNestedRoutes for NestedRoute<L, C> {
-    ghost routes = { λ s. C.Below.over s.children (route_of s.id (L.KindList.entries s.list) s.mode s.hook) };
+    ghost routes = { λ s. C.Below.over s.children (own_route L.KindList.entries s) };
 
     ghost bounds = { λ s. level_over (length (L.KindList.entries s.list)) (C.Below.bounds s.children) };
 
-    ghost enough = { λ s. C.Below.enough s.children (route_of s.id (L.KindList.entries s.list) s.mode s.hook) };
+    ghost enough = { λ s. C.Below.enough s.children (own_route L.KindList.entries s) };
 
-    ghost abides = { λ s. C.Below.abides s.children (route_of s.id (L.KindList.entries s.list) s.mode s.hook) (L.KindList.abides s.list) };
+    ghost abides = { λ s. C.Below.abides s.children (own_route L.KindList.entries s) (L.KindList.abides s.list) };
 
     fn fits_levels(&self, levels: usize) -> bool {
-        levels > 0 && self.children.levels_below(levels - 1)
+        levels
+            .checked_sub(1)
+            .is_some_and(|left| self.children.levels_below(left))
     }
 
     fn fits_entries(&self, entries: usize) -> bool {
-        match self.list.room_after(entries) {
-            Some(left) => self.children.entries_below(left),
-            None => false,
-        }
+        self.list
+            .room_after(entries)
+            .is_some_and(|left| self.children.entries_below(left))
     }
 
     fn match_at(
         &self,
-        path: &[u8],
-        at: usize,
+        rest: Rest<'_>,
+        level: usize,
         levels: &mut [LevelRecord],
         params: &mut [ParamRecord],
-        l: usize,
-        p: usize,
     ) -> Option<(usize, usize)> {
-        let mut keep = self.list.optional_count();
-        loop {
-            if let Some(used) = self.match_keeping(keep, path, at, levels, params, l, p) {
+        let count = self.list.optional_count();
+        // a loop: a closure that writes what was lent would leave unsaid what it wrote
+        for keep in (0..=count).rev() {
+            if let Some(used) = self.match_keeping(keep, rest, level, levels, params) {
                 return Some(used);
             }
-            if keep == 0 {
-                return None;
-            }
-            keep -= 1;
         }
+        None
     }
 
     fn line_count(&self) -> u64 {
@@ -238,30 +207,32 @@ impl<L: KindList, C: Below> MatchNestedRoutes for NestedRoute<L, C> {
         ids: &mut [RouteId],
         entries: &mut [PathSegment],
         hooks: &mut [u16],
-        i: usize,
-        e: usize,
-        h: usize,
     ) -> LineRecord {
-        ids[i] = self.id;
-        let own_entries = self.list.generate(entries, e);
-        let own_hooks = put_hook(self.mode, self.hook, hooks, h);
-        let below = self
-            .children
-            .line_below(n, ids, entries, hooks, i + 1, own_entries, own_hooks);
+        ids[0] = self.id;
+        let own_entries = self.list.generate(entries);
+        let own_hooks = put_hook(self.rendering, hooks);
+        let below = self.children.line_below(
+            n,
+            &mut ids[1..],
+            &mut entries[own_entries..],
+            &mut hooks[own_hooks..],
+        );
         LineRecord {
-            ids: below.ids,
-            entries: below.entries,
-            hooks: below.hooks,
-            mode: self.mode.higher(below.mode),
+            ids: below.ids + 1,
+            entries: below.entries + own_entries,
+            hooks: below.hooks + own_hooks,
+            mode: self.rendering.mode.higher(below.mode),
         }
     }
 
-    fn kept_at(&self, line: u32, n: u32, entries: &mut [PathSegment], e: usize) -> usize {
+    fn kept_at(&self, line: u32, n: u32, entries: &mut [PathSegment]) -> usize {
         let below = self.children.kept_lists_below(line);
         let dropped = n as u64 / below;
         let rest = n as u64 % below;
         let keep = self.list.optional_count() - dropped as usize;
-        let own = self.list.generate_kept(keep, entries, e);
-        self.children.kept_below(line, rest as u32, entries, own)
+        let own = self.list.generate_kept(keep, entries);
+        own + self
+            .children
+            .kept_below(line, rest as u32, &mut entries[own..])
     }
 }

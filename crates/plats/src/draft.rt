@@ -1,9 +1,10 @@
+use entries::rest::Rest;
 use rules::records::{LevelRecord, LineRecord, ParamRecord, RouteId};
 use rules::segment::PathSegment;
 use trees::tree::MatchNestedRoutes;
 
 // A tree that is still a draft: the number of its sheet goes with it, and it means what the tree means. It stands here for a tree
-// of another crate.
+// of another crate, which writes each step, as here it hands each on.
 #[derive(Drop)]
 pub struct Draft<T> {
     pub sheet: u16,
@@ -29,14 +30,12 @@ impl<T: MatchNestedRoutes> MatchNestedRoutes for Draft<T> {
 
     fn match_at(
         &self,
-        path: &[u8],
-        at: usize,
+        rest: Rest<'_>,
+        level: usize,
         levels: &mut [LevelRecord],
         params: &mut [ParamRecord],
-        l: usize,
-        p: usize,
     ) -> Option<(usize, usize)> {
-        self.tree.match_at(path, at, levels, params, l, p)
+        self.tree.match_at(rest, level, levels, params)
     }
 
     fn line_count(&self) -> u64 {
@@ -53,14 +52,11 @@ impl<T: MatchNestedRoutes> MatchNestedRoutes for Draft<T> {
         ids: &mut [RouteId],
         entries: &mut [PathSegment],
         hooks: &mut [u16],
-        i: usize,
-        e: usize,
-        h: usize,
     ) -> LineRecord {
-        self.tree.line_at(n, ids, entries, hooks, i, e, h)
+        self.tree.line_at(n, ids, entries, hooks)
     }
 
-    fn kept_at(&self, line: u32, n: u32, entries: &mut [PathSegment], e: usize) -> usize {
-        self.tree.kept_at(line, n, entries, e)
+    fn kept_at(&self, line: u32, n: u32, entries: &mut [PathSegment]) -> usize {
+        self.tree.kept_at(line, n, entries)
     }
 }

@@ -1,6 +1,7 @@
 // What routes answer on links of every sort, and what is refused.
 
 mod firm;
+mod given;
 mod handed_over;
 mod kept_lists;
 mod lines;

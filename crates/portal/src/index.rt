@@ -1,23 +1,30 @@
 // The index of pages: one line for each childless route.
-use crate::shown::shown;
+use crate::shown::Shown;
 use firm::pages::{ENTRIES, LEVELS};
 use rules::records::RouteId;
 use rules::segment::{PathSegment, SegmentKind};
+use std::fmt;
 use trees::tree::MatchNestedRoutes;
 
 // An entry as it is written in a route: `parcel`, `:lot`, `:client?`, `*rest`.
-fn print_entry(rt: &HostRuntime, entry: &PathSegment) -> anyhow::Result<()> {
-    let (before, after) = match entry.kind {
-        SegmentKind::Unit => (".", ""),
-        SegmentKind::Static => ("", ""),
-        SegmentKind::Param => (":", ""),
-        SegmentKind::OptionalParam => (":", "?"),
-        SegmentKind::Splat => ("*", ""),
-    };
-    let len = entry.len as usize;
-    let text = shown(rt.alloc(), entry.text.get(0..len).unwrap_or(b""))?;
-    print!(rt; " {before}{text}{after}")?;
-    Ok(())
+#[derive(Clone, Copy)]
+struct ShownEntry<'a>(&'a PathSegment);
+
+impl<'a> fmt::Display for ShownEntry<'a> {
+    fn fmt<W: fmt::Write>(&self, f: &mut fmt::Formatter<W>) -> fmt::Result {
+        let (before, after) = match self.0.kind {
+            SegmentKind::Unit => (".", ""),
+            SegmentKind::Static => ("", ""),
+            SegmentKind::Param => (":", ""),
+            SegmentKind::OptionalParam => (":", "?"),
+            SegmentKind::Splat => ("*", ""),
+        };
+        let len = self.0.len as usize;
+        let text = Shown {
+            bytes: self.0.text.get(0..len).unwrap_or(b""),
+        };
+        write!(f, "{before}{text}{after}")
+    }
 }
 
 fn print_line<T: MatchNestedRoutes>(rt: &HostRuntime, tree: &T, n: u32) -> anyhow::Result<()> {
@@ -30,8 +37,8 @@ fn print_line<T: MatchNestedRoutes>(rt: &HostRuntime, tree: &T, n: u32) -> anyho
         print!(rt; " {id}")?;
     }
     print!(rt; ":")?;
-    for entry in entries.iter().take(line.entries) {
-        print_entry(rt, entry)?;
+    for entry in entries.iter().take(line.entries).map(ShownEntry) {
+        print!(rt; " {entry}")?;
     }
     let mode = line.mode;
     let forms = tree.kept_count(n);
@@ -40,10 +47,7 @@ fn print_line<T: MatchNestedRoutes>(rt: &HostRuntime, tree: &T, n: u32) -> anyho
 }
 
 pub fn print_index<T: MatchNestedRoutes>(rt: &HostRuntime, tree: &T) -> anyhow::Result<()> {
-    for n in 0..u32::MAX {
-        if n as u64 >= tree.line_count() {
-            break;
-        }
+    for n in 0..u32::try_from(tree.line_count()).unwrap_or(u32::MAX) {
         print_line(rt, tree, n)?;
     }
     Ok(())

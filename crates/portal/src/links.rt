@@ -1,20 +1,23 @@
 // What becomes of a link: its routes, their parts and its parameters, or its refusal.
-use crate::shown::shown;
-use firm::pages::{ENTRIES, LEVELS, name_of};
+use crate::shown::Shown;
+use firm::outcome::Outcome;
+use firm::pages::name_of;
 use rules::records::{LevelRecord, ParamRecord};
-use trees::route::match_route;
+use rules::values::TextPlace;
 use trees::tree::MatchNestedRoutes;
 
 // A part of the link.
-fn part(link: &[u8], start: usize, len: usize) -> &[u8] {
-    link.get(start..start.saturating_add(len)).unwrap_or(b"")
+fn part(link: &[u8], start: usize, len: usize) -> Shown {
+    Shown {
+        bytes: TextPlace { start, len }.bytes_in(link),
+    }
 }
 
 // The routes from the root down, each with its part of the link.
 fn print_levels(rt: &HostRuntime, link: &[u8], levels: &[LevelRecord]) -> anyhow::Result<()> {
     for level in levels {
         let id = level.id;
-        let text = shown(rt.alloc(), part(link, level.start, level.len))?;
+        let text = part(link, level.start, level.len);
         print!(rt; " {id}[{text}]")?;
     }
     Ok(())
@@ -22,11 +25,9 @@ fn print_levels(rt: &HostRuntime, link: &[u8], levels: &[LevelRecord]) -> anyhow
 
 // The optional parts that the link leaves out: a route whose part is empty.
 fn print_left_out(rt: &HostRuntime, levels: &[LevelRecord]) -> anyhow::Result<()> {
-    for level in levels {
-        if level.len == 0 {
-            let name = name_of(level.id, 0);
-            print!(rt; ", {name} left out")?;
-        }
+    for level in levels.iter().filter(|level| level.len == 0) {
+        let name = name_of(level.id, 0);
+        print!(rt; ", {name} left out")?;
     }
     Ok(())
 }
@@ -39,12 +40,9 @@ fn print_params(
     params: &[ParamRecord],
 ) -> anyhow::Result<()> {
     for param in params {
-        let id = match levels.get(param.level) {
-            Some(level) => level.id,
-            None => 0,
-        };
+        let id = levels.get(param.level).map_or(0, |level| level.id);
         let name = name_of(id, param.entry);
-        let value = shown(rt.alloc(), part(link, param.start, param.len))?;
+        let value = part(link, param.start, param.len);
         print!(rt; ", {name} {value}")?;
     }
     Ok(())
@@ -56,11 +54,14 @@ pub fn print_link<T: MatchNestedRoutes>(
     tree: &T,
     link: &[u8],
 ) -> anyhow::Result<bool> {
-    let mut levels = [LevelRecord::ZERO; LEVELS];
-    let mut params = [ParamRecord::ZERO; ENTRIES];
-    let path = shown(rt.alloc(), link)?;
+    let path = Shown { bytes: link };
     print!(rt; "{path}:")?;
-    match match_route(tree, link, &mut levels, &mut params) {
+    let Outcome {
+        told,
+        levels,
+        params,
+    } = Outcome::of(tree, link);
+    match told {
         Ok((routes, values)) => {
             let used = levels.get(0..routes).unwrap_or(&levels);
             print_levels(rt, link, used)?;

@@ -3,6 +3,8 @@ ghost use Rattle.rules.specs.Bounds.{larger};
 ghost use Rattle.rules.proofs.Lawfully.{beside_lawful};
 ghost use Rattle.rules.proofs.Bounded.{enough_beside};
 
+use crate::behind::behind;
+use entries::rest::Rest;
 use rules::records::{LevelRecord, LineRecord, ParamRecord, RouteId};
 use rules::segment::PathSegment;
 use trees::tree::MatchNestedRoutes;
@@ -33,16 +35,15 @@ impl<A: MatchNestedRoutes, B: MatchNestedRoutes> MatchNestedRoutes for Pair<A, B
 
     fn match_at(
         &self,
-        path: &[u8],
-        at: usize,
+        rest: Rest<'_>,
+        level: usize,
         levels: &mut [LevelRecord],
         params: &mut [ParamRecord],
-        l: usize,
-        p: usize,
     ) -> Option<(usize, usize)> {
-        match self.first.match_at(path, at, levels, params, l, p) {
+        // a match, since a closure that writes what was lent would leave unsaid what it wrote
+        match self.first.match_at(rest, level, levels, params) {
             Some(used) => Some(used),
-            None => self.second.match_at(path, at, levels, params, l, p),
+            None => self.second.match_at(rest, level, levels, params),
         }
     }
 
@@ -53,11 +54,9 @@ impl<A: MatchNestedRoutes, B: MatchNestedRoutes> MatchNestedRoutes for Pair<A, B
     }
 
     fn kept_count(&self, line: u32) -> u64 {
-        let count = self.first.line_count();
-        if (line as u64) < count {
-            self.first.kept_count(line)
-        } else {
-            self.second.kept_count(line - count as u32)
+        match behind(&self.first, line) {
+            None => self.first.kept_count(line),
+            Some(left) => self.second.kept_count(left),
         }
     }
 
@@ -67,25 +66,17 @@ impl<A: MatchNestedRoutes, B: MatchNestedRoutes> MatchNestedRoutes for Pair<A, B
         ids: &mut [RouteId],
         entries: &mut [PathSegment],
         hooks: &mut [u16],
-        i: usize,
-        e: usize,
-        h: usize,
     ) -> LineRecord {
-        let count = self.first.line_count();
-        if (n as u64) < count {
-            self.first.line_at(n, ids, entries, hooks, i, e, h)
-        } else {
-            self.second
-                .line_at(n - count as u32, ids, entries, hooks, i, e, h)
+        match behind(&self.first, n) {
+            None => self.first.line_at(n, ids, entries, hooks),
+            Some(left) => self.second.line_at(left, ids, entries, hooks),
         }
     }
 
-    fn kept_at(&self, line: u32, n: u32, entries: &mut [PathSegment], e: usize) -> usize {
-        let count = self.first.line_count();
-        if (line as u64) < count {
-            self.first.kept_at(line, n, entries, e)
-        } else {
-            self.second.kept_at(line - count as u32, n, entries, e)
+    fn kept_at(&self, line: u32, n: u32, entries: &mut [PathSegment]) -> usize {
+        match behind(&self.first, line) {
+            None => self.first.kept_at(line, n, entries),
+            Some(left) => self.second.kept_at(left, n, entries),
         }
     }
 }

@@ -1,8 +1,13 @@
+ghost use Rattle.std.specs.Prelude.{◌≡◌};
+ghost use Rattle.std.specs.Option.{option_map};
 ghost use Rattle.rules.specs.Forests.{forest_of};
 ghost use Rattle.rules.specs.Bounds.{largest};
+ghost use Rattle.rules.specs.Steps.{line_in};
 ghost use Rattle.rules.proofs.Lawfully.{row_lawful};
 ghost use Rattle.rules.proofs.Bounded.{enough_row};
 
+use crate::behind::behind;
+use entries::rest::Rest;
 use rules::records::{LevelRecord, LineRecord, ParamRecord, RouteId};
 use rules::segment::PathSegment;
 use trees::tree::MatchNestedRoutes;
@@ -11,6 +16,20 @@ use trees::tree::MatchNestedRoutes;
 #[derive(Drop)]
 pub struct Row<'a, T> {
     pub items: &'a [T],
+}
+
+// The item that has a line, and the line's number there. A loop, since what is left of the number goes on from item to item.
+fn find_line<T: MatchNestedRoutes>(items: &[T], line: u32) -> Option<(&T, u32)>
+    ensures { option_map (λ u. (u.0.now, u.1)) result ≡ line_in T.MatchNestedRoutes.routes items.now line }
+{
+    let mut left = line;
+    for item in items {
+        let Some(more) = behind(item, left) else {
+            return Some((item, left));
+        };
+        left = more;
+    }
+    None
 }
 
 impl<'a, T: MatchNestedRoutes> MatchNestedRoutes for Row<'a, T> {
@@ -23,34 +42,23 @@ impl<'a, T: MatchNestedRoutes> MatchNestedRoutes for Row<'a, T> {
     ghost abides = { λ s. row_lawful T.MatchNestedRoutes.routes T.MatchNestedRoutes.abides s.items.now };
 
     fn fits_levels(&self, levels: usize) -> bool {
-        for item in self.items {
-            if !item.fits_levels(levels) {
-                return false;
-            }
-        }
-        true
+        self.items.iter().all(|item| item.fits_levels(levels))
     }
 
     fn fits_entries(&self, entries: usize) -> bool {
-        for item in self.items {
-            if !item.fits_entries(entries) {
-                return false;
-            }
-        }
-        true
+        self.items.iter().all(|item| item.fits_entries(entries))
     }
 
     fn match_at(
         &self,
-        path: &[u8],
-        at: usize,
+        rest: Rest<'_>,
+        level: usize,
         levels: &mut [LevelRecord],
         params: &mut [ParamRecord],
-        l: usize,
-        p: usize,
     ) -> Option<(usize, usize)> {
+        // a loop, for the same reason as in a pair
         for item in self.items {
-            if let Some(used) = item.match_at(path, at, levels, params, l, p) {
+            if let Some(used) = item.match_at(rest, level, levels, params) {
                 return Some(used);
             }
         }
@@ -66,15 +74,10 @@ impl<'a, T: MatchNestedRoutes> MatchNestedRoutes for Row<'a, T> {
     }
 
     fn kept_count(&self, line: u32) -> u64 {
-        let mut left = line;
-        for item in self.items {
-            let count = item.line_count();
-            if (left as u64) < count {
-                return item.kept_count(left);
-            }
-            left -= count as u32;
+        match find_line(self.items, line) {
+            Some((item, left)) => item.kept_count(left),
+            None => 0,
         }
-        0
     }
 
     fn line_at(
@@ -83,30 +86,17 @@ impl<'a, T: MatchNestedRoutes> MatchNestedRoutes for Row<'a, T> {
         ids: &mut [RouteId],
         entries: &mut [PathSegment],
         hooks: &mut [u16],
-        i: usize,
-        e: usize,
-        h: usize,
     ) -> LineRecord {
-        let mut left = n;
-        for item in self.items {
-            let count = item.line_count();
-            if (left as u64) < count {
-                return item.line_at(left, ids, entries, hooks, i, e, h);
-            }
-            left -= count as u32;
+        match find_line(self.items, n) {
+            Some((item, left)) => item.line_at(left, ids, entries, hooks),
+            None => unreachable(),
         }
-        unreachable()
     }
 
-    fn kept_at(&self, line: u32, n: u32, entries: &mut [PathSegment], e: usize) -> usize {
-        let mut left = line;
-        for item in self.items {
-            let count = item.line_count();
-            if (left as u64) < count {
-                return item.kept_at(left, n, entries, e);
-            }
-            left -= count as u32;
+    fn kept_at(&self, line: u32, n: u32, entries: &mut [PathSegment]) -> usize {
+        match find_line(self.items, line) {
+            Some((item, left)) => item.kept_at(left, n, entries),
+            None => unreachable(),
         }
-        unreachable()
     }
 }

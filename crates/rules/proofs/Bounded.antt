@@ -1,7 +1,7 @@
 -- The bounds of a tree suffice for its answers, and buffers reach them by parts.
-use Rattle.std.proofs.Common.{◌≡◌, ℕ, zero, suc, ◌+◌, ◌<◌, ◌≤◌, max, Bool, true, ◌&&◌, leb, List, [], ◌∷◌, length, get_or, drop, sym, ap, ◌∙◌, arith}
+use Rattle.std.proofs.Common.{◌≡◌, ℕ, zero, suc, ◌<◌, ◌≤◌, max, Bool, true, ◌&&◌, leb, List, [], ◌∷◌, length, get_or, sym, ap, ◌∙◌, arith}
 use Rattle.std.proofs.lemmas.Bool.Decides.{nat_tests}
-use Rattle.std.proofs.lemmas.List.{at_drop_more, at_drop_all}
+use Rattle.std.specs.List.{list_all}
 use Rattle.rules.specs.Forests.{Route, Forest, none, leaf, nest, beside, forest_of}
 use Rattle.rules.specs.Bounds.{Bounds, no_bounds, level_over, larger, largest, bounds_of, Enough}
 
@@ -43,15 +43,10 @@ module _ {X : Type 0} (b : X → Bounds) (pick : Bounds → ℕ) (both : (x y : 
   within_both : (m n : ℕ) → leb (max m n) limit ≡ (leb m limit && leb n limit)
   within_both m n = grind (arith, nat_tests)
 
-  pub row_within_more : (xs : List X) (i : ℕ) (x : X) → i < length xs → x ≡ get_or xs i x → row_within (drop i xs) ≡ (leb (pick (b x)) limit && row_within (drop (i + 1) xs))
-  row_within_more xs i x l e =
-      at_drop_more row_within xs i x l
-      ∙ ap (λ n. leb n limit) (both (b (get_or xs i x)) (largest b (drop (i + 1) xs)))
-      ∙ within_both (pick (b (get_or xs i x))) (pick (largest b (drop (i + 1) xs)))
-      ∙ ap (λ y. leb (pick (b y)) limit && row_within (drop (i + 1) xs)) (sym e)
-
-  pub row_within_all : (xs : List X) (i : ℕ) → length xs ≤ i → row_within (drop i xs) ≡ true
-  row_within_all xs i l = at_drop_all row_within xs i l ∙ ap (λ n. leb n limit) none ∙ zero_within
+  -- each item is
+  pub row_fits : (xs : List X) → list_all (λ x. leb (pick (b x)) limit) xs ≡ row_within xs
+  row_fits [] = sym (ap (λ n. leb n limit) none ∙ zero_within)
     where
       zero_within : leb 0 limit ≡ true
       zero_within = grind (arith, nat_tests)
+  row_fits (x ∷ xs) = ap (λ v. leb (pick (b x)) limit && v) (row_fits xs) ∙ sym (within_both (pick (b x)) (pick (largest b xs))) ∙ ap (λ n. leb n limit) (sym (both (b x) (largest b xs)))

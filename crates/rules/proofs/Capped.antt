@@ -19,9 +19,6 @@ past_capped n c s h = omega arith
 pub capped_is : (c : ℕ) → c < 18446744073709551616 → capped c ≡ c
 capped_is c h = omega arith
 
-capped_less : (a : ℕ) → capped a ≤ a
-capped_less a = omega arith
-
 -- a product of more than one and something is no less
 pub capped_mul : (a b : ℕ) → min (capped (a + 1) * capped b) (2 ^ 64 - 1) ≡ capped ((a + 1) * b)
 capped_mul a zero = ap (λ n. min n (2 ^ 64 - 1)) (mul-zero (capped (a + 1))) ∙ ap capped (sym (mul-zero (a + 1)))

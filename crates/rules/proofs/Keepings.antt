@@ -31,16 +31,16 @@ module _ (r : Route) (below : List KeptList) (level at : ℕ) (p : List ℕ) whe
   keeping_or zero = or_none (first_read (under (keeping r zero) below) level at p)
   keeping_or (suc n) = first_append (under (keeping r (suc n)) below) (each_keeping r n below) level at p
 
-  module _ (whole : Option Answer) (n l q : ℕ) {ls ls₁ : List LevelRecord} {ps ps₁ : List ParamRecord} (is : whole ≡ first_read (each_keeping r n below) level at p) where
-    pub keeping_found : {f : ℕ × ℕ} → Matched (first_read (under (keeping r n) below) level at p) l q (Some f) ls ls₁ ps ps₁ → Matched whole l q (Some f) ls ls₁ ps ps₁
+  module _ (whole : Option Answer) (n : ℕ) {ls ls₁ : List LevelRecord} {ps ps₁ : List ParamRecord} (is : whole ≡ first_read (each_keeping r n below) level at p) where
+    pub keeping_found : {f : ℕ × ℕ} → Matched (first_read (under (keeping r n) below) level at p) (Some f) ls ls₁ ps ps₁ → Matched whole (Some f) ls ls₁ ps ps₁
     keeping_found m = either_first _ (fewer n) whole (is ∙ keeping_or n) m
 
-    pub keeping_last : n ≡ 0 → Matched (first_read (under (keeping r n) below) level at p) l q None ls ls₁ ps ps₁ → Matched whole l q None ls ls₁ ps ps₁
-    keeping_last z m = either_second _ (fewer n) whole (is ∙ keeping_or n) m (matched_none (fewer n) l q ls₁ ps₁ (ap fewer z))
+    pub keeping_last : n ≡ 0 → Matched (first_read (under (keeping r n) below) level at p) None ls ls₁ ps ps₁ → Matched whole None ls ls₁ ps ps₁
+    keeping_last z m = either_second _ (fewer n) whole (is ∙ keeping_or n) m (matched_none (fewer n) ls₁ ps₁ (ap fewer z))
 
     -- one fewer is left to try, and nothing was changed
-    pub keeping_next : (n ≡ 0 → ⊥) → Matched (first_read (under (keeping r n) below) level at p) l q None ls ls₁ ps ps₁ → (whole ≡ first_read (each_keeping r (n - 1) below) level at p) × (ls₁ ≡ ls) × (ps₁ ≡ ps)
+    pub keeping_next : (n ≡ 0 → ⊥) → Matched (first_read (under (keeping r n) below) level at p) None ls ls₁ ps ps₁ → (whole ≡ first_read (each_keeping r (n - 1) below) level at p) × (ls₁ ≡ ls) × (ps₁ ≡ ps)
     keeping_next ne m =
-        let u = unused (first_read (under (keeping r n) below) level at p) l q m.result in
+        let u = unused (first_read (under (keeping r n) below) level at p) m.result in
         let down : n ≡ suc (n - 1) = omega arith in
-        (is ∙ keeping_or n ∙ ap (λ o. or_else o (fewer n)) u ∙ ap fewer down, m.levels ∙ ap (λ o. levels_after o l ls) u, m.params ∙ ap (λ o. params_after o q ps) u)
+        (is ∙ keeping_or n ∙ ap (λ o. or_else o (fewer n)) u ∙ ap fewer down, m.levels ∙ ap (λ o. levels_after o ls) u, m.params ∙ ap (λ o. params_after o ps) u)

@@ -6,7 +6,7 @@ pub mod Answered
 pub mod Admitted
 pub mod Sound
 pub mod Takes
-pub mod Buffers
+pub mod Overlaid
 pub mod ReadMore
 pub mod FirstRead
 pub mod MatchMore

@@ -9,10 +9,10 @@ use Rattle.rules.specs.Modes.{is_static, higher}
 use Rattle.rules.specs.Forests.{Route, Forest, none, leaf, nest, beside}
 use Rattle.rules.specs.Lines.{Line, no_line, hooks_of, line_of, line_under, lines_under, lines}
 use Rattle.rules.specs.Entries.{Entry}
-use Rattle.rules.specs.Records.{record_of, records_of, overwritten}
+use Rattle.rules.specs.Records.{record_of, records_of, overlaid}
 use Rattle.rules.specs.Steps.{GivenOut}
 use Rattle.rules.proofs.Generated.{records_length}
-use Rattle.rules.proofs.Buffers.{overwritten_parts, overwritten_none, overwritten_one}
+use Rattle.rules.proofs.Overlaid.{overlaid_room, overlaid_one, behind, back, behind_length, laid_behind}
 
 pub under_length : (r : Route) (ls : List Line) → length (lines_under r ls) ≡ length ls
 under_length r [] = refl
@@ -50,62 +50,48 @@ under_at r [] n h = absurd (omega arith)
 under_at r (l ∷ ls) zero h = refl
 under_at r (l ∷ ls) (suc n) h = under_at r ls n (omega arith)
 
--- the end of a line gives out nothing
-pub given_end : (i e h : ℕ) (is : List ℕ) (es : List PathSegment) (hs : List ℕ) → GivenOut no_line i e h (record { ids = i; entries = e; hooks = h; mode = OutOfOrder }) is is es es hs hs
-given_end i e h is es hs =
-    record {
-      end =
-          ap (λ n. record { ids = n; entries = e; hooks = h; mode = OutOfOrder }) (plus i)
-          ∙ ap (λ n. record { ids = i + 0; entries = n; hooks = h; mode = OutOfOrder }) (plus e)
-          ∙ ap (λ n. record { ids = i + 0; entries = e + 0; hooks = n; mode = OutOfOrder }) (plus h);
-      ids = sym (overwritten_none is i);
-      entries = sym (overwritten_none es e);
-      hooks = sym (overwritten_none hs h);
-    }
-  where
-    plus : (n : ℕ) → n ≡ n + 0
-    plus n = omega arith
-
 pub records_append : (xs ys : List Entry) → records_of (xs ++ ys) ≡ records_of xs ++ records_of ys
 records_append [] ys = refl
 records_append (x ∷ xs) ys = ap (λ rs. record_of x ∷ rs) (records_append xs ys)
 
--- a route's own part, and then a line below it
-module _ (r : Route) (l : Line) (i e h : ℕ) (is is₁ is₂ : List ℕ) (es es₁ es₂ : List PathSegment) (hs hs₁ hs₂ : List ℕ) (own : LineRecord) where
-  pub given_under :
-      (x : LineRecord) → is₁ ≡ set is i r.id → i < length is →
-      (e₁ : ℕ) → e₁ ≡ e + length r.entries → es₁ ≡ overwritten es e (records_of r.entries) → e₁ ≤ length es →
-      (h₁ : ℕ) → h₁ ≡ h + length (hooks_of r) → hs₁ ≡ overwritten hs h (hooks_of r) → h₁ ≤ length hs →
-      GivenOut l (i + 1) e₁ h₁ x is₁ is₂ es₁ es₂ hs₁ hs₂ →
-      length is₂ ≡ length is → length es₂ ≡ length es → length hs₂ ≡ length hs → length es₁ ≡ length es → length hs₁ ≡ length hs →
-      own ≡ record { ids = x.ids; entries = x.entries; hooks = x.hooks; mode = higher r.mode x.mode } →
-      GivenOut (line_under r l) i e h own is is₂ es es₂ hs hs₂
-  given_under x wi li e₁ we we' le h₁ wh wh' lh g same same' same'' ke kh is-own =
-      let one : length is₁ ≡ length is = ap length wi ∙ length-set is i r.id in
+-- a route's own part, and then a line below it, behind that part in each buffer
+module _ (r : Route) (l : Line) (is is₁ is₂ : List ℕ) (es es₁ es₂ : List PathSegment) (hs hs₁ hs₂ : List ℕ) (x : LineRecord) (e h : ℕ)
+    (ids : is₁ ≡ set is 0 r.id) (some : 0 < length is)
+    (entries : es₁ ≡ overlaid es (records_of r.entries)) (own_entries : e ≡ length r.entries) (within : e ≤ length es₁)
+    (hooks : hs₁ ≡ overlaid hs (hooks_of r)) (own_hooks : h ≡ length (hooks_of r)) (within' : h ≤ length hs₁)
+    (below : GivenOut l x (behind 1 is₁) is₂ (behind e es₁) es₂ (behind h hs₁) hs₂) where
+  -- how much the line below has: it lies within what was lent for it
+  pub given_few : length is₂ ≡ length (behind 1 is₁) → length es₂ ≡ length (behind e es₁) → length hs₂ ≡ length (behind h hs₁) → (x.ids + 1 ≤ length is₁) × (x.entries + e ≤ length es₁) × (x.hooks + h ≤ length hs₁)
+  given_few a b c =
+      let i = overlaid_room (behind 1 is₁) l.ids is₂ below.ids a in
+      let n = overlaid_room (behind e es₁) (records_of l.entries) es₂ below.entries b in
+      let k = overlaid_room (behind h hs₁) l.hooks hs₂ below.hooks c in
+      let ci : x.ids ≡ length l.ids = ap (λ (v : LineRecord). v.ids) below.counts in
+      let cn : x.entries ≡ length l.entries = ap (λ (v : LineRecord). v.entries) below.counts in
+      let ck : x.hooks ≡ length l.hooks = ap (λ (v : LineRecord). v.hooks) below.counts in
+      let one : length is₁ ≡ length is = ap length ids ∙ length-set is 0 r.id in
+      (omega (arith, i, ci, behind_length 1 is₁), omega (arith, n, cn, records_length l.entries, behind_length e es₁), omega (arith, k, ck, behind_length h hs₁))
+
+  pub given_under : (own : LineRecord) → own ≡ record { ids = x.ids + 1; entries = x.entries + e; hooks = x.hooks + h; mode = higher r.mode x.mode } → GivenOut (line_under r l) own is (back 1 is₁ is₂) es (back e es₁ es₂) hs (back h hs₁ hs₂)
+  given_under own is-own =
+      let one : length is₁ ≡ length is = ap length ids ∙ length-set is 0 r.id in
+      let ends_ids : length l.ids + 1 ≡ length (r.id ∷ l.ids) = omega arith in
+      let ends_entries : length l.entries + e ≡ length (r.entries ++ l.entries) = omega (arith, length-append r.entries l.entries) in
+      let ends_hooks : length l.hooks + h ≡ length (hooks_of r ++ l.hooks) = omega (arith, length-append (hooks_of r) l.hooks) in
       record {
-        end =
+        counts =
             is-own
-            ∙ ap (λ (v : LineRecord). record { ids = v.ids; entries = v.entries; hooks = v.hooks; mode = higher r.mode v.mode }) g.end
-            ∙ ap (λ n. record { ids = n; entries = e₁ + length l.entries; hooks = h₁ + length l.hooks; mode = higher r.mode l.mode }) (ends_ids)
-            ∙ ap (λ n. record { ids = i + length (r.id ∷ l.ids); entries = n; hooks = h₁ + length l.hooks; mode = higher r.mode l.mode }) (ends_behind e e₁ r.entries l.entries we)
-            ∙ ap (λ n. record { ids = i + length (r.id ∷ l.ids); entries = e + length (r.entries ++ l.entries); hooks = n; mode = higher r.mode l.mode }) (ends_behind h h₁ (hooks_of r) l.hooks wh);
-        ids = overwritten_parts is is₁ is₂ i (i + 1) (r.id ∷ []) l.ids refl (wi ∙ overwritten_one is i r.id li) g.ids (omega arith) one same;
+            ∙ ap (λ (v : LineRecord). record { ids = v.ids + 1; entries = v.entries + e; hooks = v.hooks + h; mode = higher r.mode v.mode }) below.counts
+            ∙ ap (λ n. record { ids = n; entries = length l.entries + e; hooks = length l.hooks + h; mode = higher r.mode l.mode }) ends_ids
+            ∙ ap (λ n. record { ids = length (r.id ∷ l.ids); entries = n; hooks = length l.hooks + h; mode = higher r.mode l.mode }) ends_entries
+            ∙ ap (λ n. record { ids = length (r.id ∷ l.ids); entries = length (r.entries ++ l.entries); hooks = n; mode = higher r.mode l.mode }) ends_hooks;
+        ids = ap (back 1 is₁) below.ids ∙ laid_behind is is₁ (r.id ∷ []) l.ids 1 refl (omega arith) (ids ∙ overlaid_one is r.id some);
         entries =
-            overwritten_parts es es₁ es₂ e e₁ (records_of r.entries) (records_of l.entries) (we ∙ ap (λ n. e + n) (sym (records_length r.entries))) we' g.entries le ke same'
-            ∙ ap (overwritten es e) (sym (records_append r.entries l.entries));
-        hooks = overwritten_parts hs hs₁ hs₂ h h₁ (hooks_of r) l.hooks wh wh' g.hooks lh kh same'';
+            ap (back e es₁) below.entries
+            ∙ laid_behind es es₁ (records_of r.entries) (records_of l.entries) e (own_entries ∙ sym (records_length r.entries)) within entries
+            ∙ ap (overlaid es) (sym (records_append r.entries l.entries));
+        hooks = ap (back h hs₁) below.hooks ∙ laid_behind hs hs₁ (hooks_of r) l.hooks h own_hooks within' hooks;
       }
-    where
-      ends_ids : i + 1 + length l.ids ≡ i + length (r.id ∷ l.ids)
-      ends_ids = omega arith
-
-      ends_behind : {A : Type 0} (a a₁ : ℕ) (xs ys : List A) → a₁ ≡ a + length xs → a₁ + length ys ≡ a + length (xs ++ ys)
-      ends_behind a a₁ xs ys p = omega (arith, p, length-append xs ys)
-
--- the only line below a childless route
-pub only_line : {i e h : ℕ} {r : LineRecord} {is is' : List ℕ} {es es' : List PathSegment} {hs hs' : List ℕ} (n : ℕ) → n < 1 → GivenOut no_line i e h r is is' es es' hs hs' → GivenOut (get_or (no_line ∷ []) n no_line) i e h r is is' es es' hs hs'
-only_line zero l g = g
-only_line (suc n) l g = absurd (omega arith)
 
 pub hooks_few : (r : Route) → length (hooks_of r) ≤ 1
 hooks_few r = go (is_static r.mode && not (eqb r.hook 0))
@@ -115,5 +101,5 @@ hooks_few r = go (is_static r.mode && not (eqb r.hook 0))
     go false = omega arith
 
 -- the same line under another description
-pub given_as : {l m : Line} {i e h : ℕ} {r : LineRecord} {is is' : List ℕ} {es es' : List PathSegment} {hs hs' : List ℕ} → l ≡ m → GivenOut m i e h r is is' es es' hs hs' → GivenOut l i e h r is is' es es' hs hs'
-given_as {l} {m} {i} {e} {h} {r} {is} {is'} {es} {es'} {hs} {hs'} s g = subst (λ x. GivenOut x i e h r is is' es es' hs hs') (sym s) g
+pub given_as : {l m : Line} {r : LineRecord} {is is' : List ℕ} {es es' : List PathSegment} {hs hs' : List ℕ} → l ≡ m → GivenOut m r is is' es es' hs hs' → GivenOut l r is is' es es' hs hs'
+given_as {l} {m} {r} {is} {is'} {es} {es'} {hs} {hs'} s g = subst (λ x. GivenOut x r is is' es es' hs hs') (sym s) g

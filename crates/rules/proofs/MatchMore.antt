@@ -1,17 +1,17 @@
 -- What a match leaves, from what its parts leave: a route over what stands below it, a route over nothing, and one tree before another.
-use Rattle.std.proofs.Common.{◌≡◌, ℕ, ◌+◌, ◌≤◌, Bool, true, false, cond, ◌||◌, List, [], ◌∷◌, ◌++◌, length, drop, set, Some, None, Option, sym, refl, ap, ◌∙◌, add-zero, arith, length-append}
+use Rattle.std.proofs.Common.{◌≡◌, ℕ, ◌+◌, ◌≤◌, Bool, true, false, ◌||◌, List, [], ◌∷◌, ◌++◌, length, drop, set, Some, None, Option, sym, refl, ap, ◌∙◌, arith, length-append}
 use Rattle.rules.specs.declared.records.LevelRecord.{LevelRecord}
 use Rattle.rules.specs.declared.records.ParamRecord.{ParamRecord}
 use Rattle.rules.specs.Entries.{Entry, is_optional, is_bare}
 use Rattle.rules.specs.Keeping.{as_kept, still_kept, keep_or_drop, kept_from}
 use Rattle.rules.specs.Forests.{Route}
-use Rattle.rules.specs.KeptLists.{KeptList, keeping, under, childless}
-use Rattle.rules.specs.Answers.{Answer, no_records, any_bare, part_length}
-use Rattle.rules.specs.Records.{overwritten}
-use Rattle.rules.specs.Steps.{and_then, is_ending, kept_entries, has_bare, list_takes, list_reads, count_read, read_into, add_level, first_read, levels_after, params_after, in_use, Matched}
+use Rattle.rules.specs.KeptLists.{KeptList, keeping, under}
+use Rattle.rules.specs.Answers.{Answer, any_bare, part_length}
+use Rattle.rules.specs.Records.{overlaid}
+use Rattle.rules.specs.Steps.{and_then, kept_entries, has_bare, list_takes, list_reads, count_read, read_into, add_level, first_read, levels_after, params_after, in_use, Matched}
 use Rattle.rules.specs.Choice.{or_else}
 use Rattle.rules.proofs.KeptEntry.{as_kept_lem}
-use Rattle.rules.proofs.Buffers.{overwritten_none, overwritten_more, overwritten_room, overwritten_both}
+use Rattle.rules.proofs.Overlaid.{overlaid_room, overlaid_one, behind, back, behind_length, back_same, back_some, laid_before}
 use Rattle.rules.proofs.ReadMore.{takes_read}
 use Rattle.rules.proofs.FirstRead.{after, first_under}
 
@@ -23,16 +23,16 @@ some_of : (o : Option (ℕ × List ParamRecord)) (taken values : ℕ) → Some (
 some_of None t v h = let z : ◌≡◌ {A = ℕ} 0 1 = cc in absurd (omega arith)
 some_of (Some u) t v h = let e : ◌≡◌ {A = ℕ × ℕ} (t, v) (u.0, length u.1) = cc in (u.1, ap (λ k. Some (k.0, u.1)) (sym e), sym (ap (λ k. k.1) e))
 
-pub unused : (o : Option Answer) (l p : ℕ) → None ≡ in_use o l p → o ≡ None
-unused None l p h = refl
-unused (Some a) l p h = let z : ◌≡◌ {A = ℕ} 0 1 = cc in absurd (omega arith)
+pub unused : (o : Option Answer) → None ≡ in_use o → o ≡ None
+unused None h = refl
+unused (Some a) h = let z : ◌≡◌ {A = ℕ} 0 1 = cc in absurd (omega arith)
 
-pub used : (o : Option Answer) (l p : ℕ) (f : ℕ × ℕ) → Some f ≡ in_use o l p → (a : Answer) × (o ≡ Some a) × (f ≡ (l + length a.levels, p + length a.params))
-used None l p f h = let z : ◌≡◌ {A = ℕ} 0 1 = cc in absurd (omega arith)
-used (Some a) l p f h = (a, refl, cc)
+pub used : (o : Option Answer) (f : ℕ × ℕ) → Some f ≡ in_use o → (a : Answer) × (o ≡ Some a) × (f ≡ (length a.levels, length a.params))
+used None f h = let z : ◌≡◌ {A = ℕ} 0 1 = cc in absurd (omega arith)
+used (Some a) f h = (a, refl, cc)
 
-pub matched_none : (o : Option Answer) (l p : ℕ) (ls : List LevelRecord) (ps : List ParamRecord) → o ≡ None → Matched o l p None ls ls ps ps
-matched_none o l p ls ps e = record { result = rw e; levels = rw e; params = rw e }
+pub matched_none : (o : Option Answer) (ls : List LevelRecord) (ps : List ParamRecord) → o ≡ None → Matched o None ls ls ps ps
+matched_none o ls ps e = record { result = rw e; levels = rw e; params = rw e }
 
 -- a bare slash is always kept
 left_none : (b : Bool) (n : ℕ) → still_kept b n ≡ None → b ≡ true
@@ -47,76 +47,79 @@ has_bare_lem i n (e ∷ es) = go (still_kept (is_optional e) n) refl (λ m. has_
     go None h ih = ih 0 ∙ ap (λ b. b || has_bare es) (sym ((as_kept_lem e).optional_not_bare (left_none (is_optional e) n h)))
     go (Some m) h ih = ap (λ b. b || any_bare (kept_from (i + 1) m es)) (as_kept_lem e).bare ∙ ap (λ b. is_bare e || b) (ih m)
 
-module _ (r : Route) (keep : ℕ) (below : List KeptList) (l p at : ℕ) (path : List ℕ) (ls : List LevelRecord) (ps : List ParamRecord) where
-  pub keeping_none : None ≡ list_takes (kept_entries keep r.entries) path → Matched (first_read (under (keeping r keep) below) l at path) l p None ls ls ps ps
+-- A route over what stands below it, which is handed what is left of both buffers: behind the route's own record, and behind the
+-- records of its values.
+module _ (r : Route) (keep : ℕ) (below : List KeptList) (level at : ℕ) (path : List ℕ) (ls : List LevelRecord) (ps : List ParamRecord) where
+  abbrev own : Option Answer
+  own = first_read (under (keeping r keep) below) level at path
+
+  pub keeping_none : None ≡ list_takes (kept_entries keep r.entries) path → Matched own None ls ls ps ps
   keeping_none h =
-      let n = none_of (list_reads (kept_from 0 keep r.entries) l at path) (h ∙ takes_read r.entries 0 keep l at path) in
-      matched_none _ l p ls ps (first_under (keeping r keep) below l at path ∙ ap (λ o. and_then o (after (keeping r keep) below l at path)) n)
+      let n = none_of (list_reads (kept_from 0 keep r.entries) level at path) (h ∙ takes_read r.entries 0 keep level at path) in
+      matched_none own ls ps (first_under (keeping r keep) below level at path ∙ ap (λ o. and_then o (after (keeping r keep) below level at path)) n)
 
-  module _ (taken values : ℕ) (took : Some (taken, values) ≡ list_takes (kept_entries keep r.entries) path) (found : Option (ℕ × ℕ)) (ls' : List LevelRecord) (ps' : List ParamRecord) (child : Matched (first_read below (l + 1) (at + taken) (drop taken path)) (l + 1) (p + values) found ls ls' ps ps') where
-    abbrev reads : (rs : List ParamRecord) × (list_reads (kept_from 0 keep r.entries) l at path ≡ Some (taken, rs)) × (length rs ≡ values)
-    reads = some_of (list_reads (kept_from 0 keep r.entries) l at path) taken values (took ∙ takes_read r.entries 0 keep l at path)
+  module _ (taken values : ℕ) (took : Some (taken, values) ≡ list_takes (kept_entries keep r.entries) path) (deep : 1 ≤ length ls) (wide : values ≤ length ps) (found : Option (ℕ × ℕ)) (ls' : List LevelRecord) (ps' : List ParamRecord) (child : Matched (first_read below (level + 1) (at + taken) (drop taken path)) found (behind 1 ls) ls' (behind values ps) ps') where
+    abbrev child_reads : Option Answer
+    child_reads = first_read below (level + 1) (at + taken) (drop taken path)
 
-    whole : first_read (under (keeping r keep) below) l at path ≡ add_level (keeping r keep) at (taken, reads.0) (first_read below (l + 1) (at + taken) (drop taken path))
-    whole = first_under (keeping r keep) below l at path ∙ ap (λ o. and_then o (after (keeping r keep) below l at path)) reads.1
+    abbrev reads : (rs : List ParamRecord) × (list_reads (kept_from 0 keep r.entries) level at path ≡ Some (taken, rs)) × (length rs ≡ values)
+    reads = some_of (list_reads (kept_from 0 keep r.entries) level at path) taken values (took ∙ takes_read r.entries 0 keep level at path)
 
-    pub keeping_child_none : found ≡ None → Matched (first_read (under (keeping r keep) below) l at path) l p None ls ls' ps ps'
+    whole : own ≡ add_level (keeping r keep) at (taken, reads.0) child_reads
+    whole = first_under (keeping r keep) below level at path ∙ ap (λ o. and_then o (after (keeping r keep) below level at path)) reads.1
+
+    pub keeping_child_none : found ≡ None → Matched own None ls (back 1 ls ls') ps (back values ps ps')
     keeping_child_none e =
-        let n = unused (first_read below (l + 1) (at + taken) (drop taken path)) (l + 1) (p + values) (sym e ∙ child.result) in
-        let w : first_read (under (keeping r keep) below) l at path ≡ None = whole ∙ ap (add_level (keeping r keep) at (taken, reads.0)) n in
+        let n = unused child_reads (sym e ∙ child.result) in
+        let w : own ≡ None = whole ∙ ap (add_level (keeping r keep) at (taken, reads.0)) n in
         record {
           result = rw w;
-          levels = rw w (child.levels ∙ ap (λ o. levels_after o (l + 1) ls) n);
-          params = rw w (child.params ∙ ap (λ o. params_after o (p + values) ps) n);
+          levels = rw w (ap (back 1 ls) (child.levels ∙ ap (λ o. levels_after o (behind 1 ls)) n) ∙ back_same ls 1 deep);
+          params = rw w (ap (back values ps) (child.params ∙ ap (λ o. params_after o (behind values ps)) n) ∙ back_same ps values wide);
         }
 
-    pub keeping_some : (f : ℕ × ℕ) (ps'' : List ParamRecord) (len : ℕ) → len ≡ part_length (has_bare r.entries) taken → found ≡ Some f → l + 1 ≤ length ls → p + values ≤ length ps → length ls' ≡ length ls → length ps' ≡ length ps → ps'' ≡ read_into (list_reads (kept_from 0 keep r.entries) l at path) p ps' → Matched (first_read (under (keeping r keep) below) l at path) l p (Some f) ls (set ls' l (record { id = r.id; start = at; len = len })) ps ps''
-    keeping_some f ps'' len part e room room' same same' read =
+    -- how many records the child used: they lie within what it was lent
+    pub child_few : (f : ℕ × ℕ) → found ≡ Some f → length ls' ≡ length (behind 1 ls) → length ps' ≡ length (behind values ps) → (f.0 + 1 ≤ length ls) × (f.1 + values ≤ length ps)
+    child_few f e same same' =
+        let u = used child_reads f (sym e ∙ child.result) in
+        let l = overlaid_room (behind 1 ls) u.0.levels ls' (child.levels ∙ ap (λ o. levels_after o (behind 1 ls)) u.1) same in
+        let p = overlaid_room (behind values ps) u.0.params ps' (child.params ∙ ap (λ o. params_after o (behind values ps)) u.1) same' in
+        (omega (arith, l, behind_length 1 ls, ap (λ k. k.0) u.2), omega (arith, p, behind_length values ps, ap (λ k. k.1) u.2))
+
+    pub keeping_some : (f : ℕ × ℕ) (ps'' : List ParamRecord) (len : ℕ) → len ≡ part_length (has_bare r.entries) taken → found ≡ Some f → ps'' ≡ read_into (list_reads (kept_from 0 keep r.entries) level at path) (back values ps ps') → Matched own (Some (f.0 + 1, f.1 + values)) ls (set (back 1 ls ls') 0 (record { id = r.id; start = at; len = len })) ps ps''
+    keeping_some f ps'' len part e read =
         let x : LevelRecord = record { id = r.id; start = at; len = len } in
         let rs = reads.0 in
-        let u = used (first_read below (l + 1) (at + taken) (drop taken path)) (l + 1) (p + values) f (sym e ∙ child.result) in
+        let u = used child_reads f (sym e ∙ child.result) in
         let a = u.0 in
-        let w : first_read (under (keeping r keep) below) l at path ≡ Some (record { levels = x ∷ a.levels; params = rs ++ a.params }) = whole ∙ ap (add_level (keeping r keep) at (taken, rs)) u.1 ∙ ap (λ n. Some (record { levels = record { id = r.id; start = at; len = n } ∷ a.levels; params = rs ++ a.params })) (sym (part ∙ ap (λ b. part_length b taken) (sym (has_bare_lem 0 keep r.entries)))) in
-        let wl : ls' ≡ overwritten ls (l + 1) a.levels = child.levels ∙ ap (λ o. levels_after o (l + 1) ls) u.1 in
-        let wp : ps' ≡ overwritten ps (p + length rs) a.params = child.params ∙ ap (λ o. params_after o (p + values) ps) u.1 ∙ ap (λ k. overwritten ps (p + k) a.params) (sym reads.2) in
-        let fit = overwritten_room ls (l + 1) a.levels room (sym (ap length wl) ∙ same) in
-        let fit' = overwritten_room ps (p + length rs) a.params (omega (arith, reads.2)) (sym (ap length wp) ∙ same') in
-        let n0 : l + 1 + length a.levels ≡ l + length (x ∷ a.levels) = omega arith in
-        let n1 : p + values + length a.params ≡ p + length (rs ++ a.params) = omega (arith, reads.2, length-append rs a.params) in
+        let w : own ≡ Some (record { levels = x ∷ a.levels; params = rs ++ a.params }) = whole ∙ ap (add_level (keeping r keep) at (taken, rs)) u.1 ∙ ap (λ n. Some (record { levels = record { id = r.id; start = at; len = n } ∷ a.levels; params = rs ++ a.params })) (sym (part ∙ ap (λ b. part_length b taken) (sym (has_bare_lem 0 keep r.entries)))) in
+        let wl : ls' ≡ overlaid (behind 1 ls) a.levels = child.levels ∙ ap (λ o. levels_after o (behind 1 ls)) u.1 in
+        let wp : ps' ≡ overlaid (behind values ps) a.params = child.params ∙ ap (λ o. params_after o (behind values ps)) u.1 in
+        let n0 : f.0 + 1 ≡ length (x ∷ a.levels) = omega (arith, ap (λ k. k.0) u.2) in
+        let n1 : f.1 + values ≡ length (rs ++ a.params) = omega (arith, ap (λ k. k.1) u.2, reads.2, length-append rs a.params) in
         record {
-          result = rw w (ap Some (u.2 ∙ ap (λ k. (k, p + values + length a.params)) n0 ∙ ap (λ k. (l + length (x ∷ a.levels), k)) n1));
-          levels = rw w (ap (λ q. set q l x) wl ∙ overwritten_more ls l x a.levels fit);
-          params = rw w (read ∙ ap (λ o. read_into o p ps') reads.1 ∙ ap (λ q. overwritten q p rs) wp ∙ overwritten_both ps p rs a.params fit');
+          result = rw w (ap (λ k. Some (k, f.1 + values)) n0 ∙ ap (λ k. Some (length (x ∷ a.levels), k)) n1);
+          levels = rw w (ap (λ q. set (back 1 ls q) 0 x) wl ∙ overlaid_one (back 1 ls (overlaid (behind 1 ls) a.levels)) x (back_some ls 1 deep (overlaid (behind 1 ls) a.levels) (omega arith)) ∙ laid_before ls 1 deep (x ∷ []) a.levels refl);
+          params = rw w (read ∙ ap (λ o. read_into o (back values ps ps')) reads.1 ∙ ap (λ q. overlaid (back values ps q) rs) wp ∙ laid_before ps values wide rs a.params (sym reads.2));
         }
 
--- a leaf route has no route below it: what is left is an ending
-pub nothing_below : (l p lv at : ℕ) (path : List ℕ) (ls : List LevelRecord) (ps : List ParamRecord) → is_ending path ≡ true → Matched (first_read childless lv at path) l p (Some (l, p)) ls ls ps ps
-nothing_below l p lv at path ls ps e =
-    let w : first_read childless lv at path ≡ Some (no_records) = ap (λ b. or_else (cond b (Some (no_records)) None) None) e in
-    record {
-      result = rw w (ap Some (rw (add-zero, add-zero)));
-      levels = rw w (sym (overwritten_none ls l));
-      params = rw w (sym (overwritten_none ps p));
-    }
-
-module _ (A B whole : Option Answer) {l p : ℕ} {ls ls₁ : List LevelRecord} {ps ps₁ : List ParamRecord} (is : whole ≡ or_else A B) where
-  pub either_first : {f : ℕ × ℕ} → Matched A l p (Some f) ls ls₁ ps ps₁ → Matched whole l p (Some f) ls ls₁ ps ps₁
+module _ (A B whole : Option Answer) {ls ls₁ : List LevelRecord} {ps ps₁ : List ParamRecord} (is : whole ≡ or_else A B) where
+  pub either_first : {f : ℕ × ℕ} → Matched A (Some f) ls ls₁ ps ps₁ → Matched whole (Some f) ls ls₁ ps ps₁
   either_first {f} m =
-      let u = used A l p f m.result in
+      let u = used A f m.result in
       let w : whole ≡ A = is ∙ ap (λ o. or_else o B) u.1 ∙ sym u.1 in
       record { result = rw w m.result; levels = rw w m.levels; params = rw w m.params }
 
-  pub either_second : {r : Option (ℕ × ℕ)} {ls₂ : List LevelRecord} {ps₂ : List ParamRecord} → Matched A l p None ls ls₁ ps ps₁ → Matched B l p r ls₁ ls₂ ps₁ ps₂ → Matched whole l p r ls ls₂ ps ps₂
+  pub either_second : {r : Option (ℕ × ℕ)} {ls₂ : List LevelRecord} {ps₂ : List ParamRecord} → Matched A None ls ls₁ ps ps₁ → Matched B r ls₁ ls₂ ps₁ ps₂ → Matched whole r ls ls₂ ps ps₂
   either_second m n =
-      let u = unused A l p m.result in
+      let u = unused A m.result in
       let w : whole ≡ B = is ∙ ap (λ o. or_else o B) u in
-      let e : ls₁ ≡ ls = m.levels ∙ ap (λ o. levels_after o l ls) u in
-      let f : ps₁ ≡ ps = m.params ∙ ap (λ o. params_after o p ps) u in
-      record { result = rw w n.result; levels = rw w (n.levels ∙ ap (levels_after B l) e); params = rw w (n.params ∙ ap (params_after B p) f) }
+      let e : ls₁ ≡ ls = m.levels ∙ ap (λ o. levels_after o ls) u in
+      let f : ps₁ ≡ ps = m.params ∙ ap (λ o. params_after o ps) u in
+      record { result = rw w n.result; levels = rw w (n.levels ∙ ap (levels_after B) e); params = rw w (n.params ∙ ap (params_after B) f) }
 
-module _ (A B whole : Option Answer) {l p : ℕ} {ls ls₁ : List LevelRecord} {ps ps₁ : List ParamRecord} (is : whole ≡ or_else A B) where
   -- the second is left to try, and nothing was changed
-  pub neither_yet : Matched A l p None ls ls₁ ps ps₁ → (whole ≡ B) × (ls₁ ≡ ls) × (ps₁ ≡ ps)
+  pub neither_yet : Matched A None ls ls₁ ps ps₁ → (whole ≡ B) × (ls₁ ≡ ls) × (ps₁ ≡ ps)
   neither_yet m =
-      let u = unused A l p m.result in
-      (is ∙ ap (λ o. or_else o B) u, m.levels ∙ ap (λ o. levels_after o l ls) u, m.params ∙ ap (λ o. params_after o p ps) u)
+      let u = unused A m.result in
+      (is ∙ ap (λ o. or_else o B) u, m.levels ∙ ap (λ o. levels_after o ls) u, m.params ∙ ap (λ o. params_after o ps) u)

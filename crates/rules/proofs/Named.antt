@@ -5,7 +5,8 @@ use Rattle.std.proofs.lemmas.Bool.{cases_order, cond_both}
 use Rattle.rules.specs.declared.values.ValueRecord.{ValueRecord}
 use Rattle.rules.specs.Entries.{Entry, has_value}
 use Rattle.rules.specs.Choices.{Apart}
-use Rattle.rules.specs.Values.{bytes_in, named_from, name_of_entry, somes, choices_for, path_choices, PathsApart}
+use Rattle.rules.specs.TextParts.{bytes_in}
+use Rattle.rules.specs.Values.{named_from, name_of_entry, somes, choices_for, path_choices, PathsApart}
 use Rattle.rules.proofs.Chosen.{each_apart}
 
 least : (text x : List ℕ) (i : ℕ) (rs : List ValueRecord) (n : ℕ) → n < length (named_from text x i rs) → i ≤ get_or (named_from text x i rs) n 0

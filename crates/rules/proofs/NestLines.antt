@@ -1,15 +1,15 @@
 -- The lines and kept lists of a route over what stands below it, by their numbers.
-use Rattle.std.proofs.Common.{◌≡◌, ℕ, zero, suc, ◌+◌, ◌-◌, ◌*◌, ◌/◌, ◌%◌, ◌^◌, ◌<◌, ◌≤◌, min, Bool, true, false, cond, eqb, List, [], ◌∷◌, ◌++◌, length, get_or, sym, refl, ap, ◌∙◌, subst, ⊎_elim, mod-lt, mod-eq_of_lt, div-lt_iff_lt-mul, mul-zero, arith, length-append}
+use Rattle.std.proofs.Common.{◌≡◌, ℕ, zero, suc, ◌+◌, ◌-◌, ◌*◌, ◌/◌, ◌%◌, ◌^◌, ◌<◌, ◌≤◌, min, List, ◌∷◌, ◌++◌, length, get_or, sym, ap, ◌∙◌, subst, ⊎_elim, mod-lt, mod-eq_of_lt, div-lt_iff_lt-mul, mul-zero, arith, length-append}
 use native.Mathlib.Nat.{div-eq_of_lt}
 use Rattle.std.proofs.lemmas.Bool.{cases_lt}
 use Rattle.rules.specs.declared.segment.PathSegment.{PathSegment}
 use Rattle.rules.specs.Keeping.{optionals}
 use Rattle.rules.specs.Forests.{Route}
-use Rattle.rules.specs.KeptLists.{childless, KeptRoute, KeptList, keeping, kept_over, of_line, no_list, entries_of}
+use Rattle.rules.specs.KeptLists.{KeptRoute, KeptList, keeping, kept_over, of_line, no_list, entries_of}
 use Rattle.rules.specs.Numbers.{capped}
-use Rattle.rules.specs.Records.{records_of, overwritten}
+use Rattle.rules.specs.Records.{records_of, overlaid}
 use Rattle.rules.specs.Steps.{kept_entries, KeptOut}
-use Rattle.rules.proofs.Buffers.{overwritten_parts, overwritten_none}
+use Rattle.rules.proofs.Overlaid.{overlaid_room, behind, back, behind_length, laid_behind}
 use Rattle.rules.proofs.Capped.{capped_is, capped_one, capped_mul}
 use Rattle.rules.proofs.Generated.{records_length}
 use Rattle.rules.proofs.LinesMore.{records_append}
@@ -74,33 +74,23 @@ module _ (r : Route) (ls : List KeptList) (j : ℕ) (whole : List KeptList) (is 
       mod_small : (n m : ℕ) → 0 < m → n < 4294967296 → n % m < 4294967296
       mod_small n m p s = ⊎_elim (λ l. omega (arith, mod-eq_of_lt l)) (λ l. omega (arith, mod-lt n p)) (cases_lt n m)
 
--- a route's kept entries, and then those below it
-pub kept_out : (r : Route) (keep : ℕ) (ks : List KeptRoute) (e own res : ℕ) (es es₁ es₂ : List PathSegment) → own ≡ e + length (kept_entries keep r.entries) → es₁ ≡ overwritten es e (records_of (kept_entries keep r.entries)) → own ≤ length es → length es₁ ≡ length es → length es₂ ≡ length es → KeptOut ks own res es₁ es₂ → KeptOut (keeping r keep ∷ ks) e res es es₂
-kept_out r keep ks e own res es es₁ es₂ a b l s t k =
-    let mine = kept_entries keep r.entries in
-    let all : mine ++ entries_of ks ≡ entries_of (keeping r keep ∷ ks) = ap (λ x. x ++ entries_of ks) (sym (kept_plainly 0 keep r.entries)) in
-    record {
-      end = omega (arith, k.end, a, length-append mine (entries_of ks)) ∙ ap (λ x. e + length x) all;
-      entries =
-          overwritten_parts es es₁ es₂ e own (records_of mine) (records_of (entries_of ks)) (a ∙ ap (λ n. e + n) (sym (records_length mine))) b k.entries l s t
-          ∙ ap (overwritten es e) (sym (records_append mine (entries_of ks)) ∙ ap records_of all);
-    }
+-- a route's kept entries, and then those below it, behind them in the buffer
+module _ (r : Route) (keep : ℕ) (ks : List KeptRoute) (own res : ℕ) (es es₁ es₂ : List PathSegment) (count : own ≡ length (kept_entries keep r.entries)) (written : es₁ ≡ overlaid es (records_of (kept_entries keep r.entries))) (within : own ≤ length es₁) (below : KeptOut ks res (behind own es₁) es₂) where
+  pub kept_within : length es₂ ≡ length (behind own es₁) → own + res ≤ length es₁
+  kept_within s = omega (arith, within, below.count, records_length (entries_of ks), overlaid_room (behind own es₁) (records_of (entries_of ks)) es₂ below.entries s, behind_length own es₁)
 
--- nothing is kept below a childless route
-pub kept_end : (j n e : ℕ) (es : List PathSegment) → KeptOut (get_or (of_line j childless) n no_list).routes e e es es
-kept_end j n e es = subst (λ ks. KeptOut ks e e es es) (sym (empty (eqb 0 j) n)) (record { end = plus e; entries = sym (overwritten_none es e) })
-  where
-    plus : (n : ℕ) → n ≡ n + 0
-    plus n = omega arith
-
-    at_most : (n : ℕ) → (get_or (no_list ∷ []) n no_list).routes ≡ []
-    at_most zero = refl
-    at_most (suc n) = refl
-
-    empty : (b : Bool) (n : ℕ) → (get_or (cond b (no_list ∷ []) []) n no_list).routes ≡ []
-    empty true n = at_most n
-    empty false n = refl
+  pub kept_out : KeptOut (keeping r keep ∷ ks) (own + res) es (back own es₁ es₂)
+  kept_out =
+      let mine = kept_entries keep r.entries in
+      let all : mine ++ entries_of ks ≡ entries_of (keeping r keep ∷ ks) = ap (λ x. x ++ entries_of ks) (sym (kept_plainly 0 keep r.entries)) in
+      record {
+        count = omega (arith, below.count, count, length-append mine (entries_of ks)) ∙ ap length all;
+        entries =
+            ap (back own es₁) below.entries
+            ∙ laid_behind es es₁ (records_of mine) (records_of (entries_of ks)) own (count ∙ sym (records_length mine)) within written
+            ∙ ap (overlaid es) (sym (records_append mine (entries_of ks)) ∙ ap records_of all);
+      }
 
 -- the same kept list under another description
-pub kept_as : {ks js : List KeptRoute} {at r : ℕ} {es es' : List PathSegment} → ks ≡ js → KeptOut js at r es es' → KeptOut ks at r es es'
-kept_as {ks} {js} {at} {r} {es} {es'} s k = subst (λ x. KeptOut x at r es es') (sym s) k
+pub kept_as : {ks js : List KeptRoute} {r : ℕ} {es es' : List PathSegment} → ks ≡ js → KeptOut js r es es' → KeptOut ks r es es'
+kept_as {ks} {js} {r} {es} {es'} s k = subst (λ x. KeptOut x r es es') (sym s) k

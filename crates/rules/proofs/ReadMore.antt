@@ -1,14 +1,14 @@
 -- One entry more of what a list reads, and one record more in front of what is written.
-use Rattle.std.proofs.Common.{◌≡◌, ℕ, ◌+◌, ◌-◌, ◌≤◌, Bool, true, false, cond, List, [], ◌∷◌, length, take, drop, set, is_some, Some, None, Option, sym, refl, ap, ◌∙◌, add-zero, zero-add, add-one, arith}
+use Rattle.std.proofs.Common.{◌≡◌, ℕ, ◌+◌, ◌<◌, ◌≤◌, Bool, true, false, cond, List, [], ◌∷◌, length, drop, set, is_some, Some, None, Option, sym, refl, ap, ◌∙◌, add-zero, zero-add, add-one, arith}
 use Rattle.std.proofs.lemmas.Bool.{both_ways}
 use Rattle.rules.specs.declared.records.ParamRecord.{ParamRecord}
 use Rattle.rules.specs.Entries.{Entry, is_optional, has_value, means_optional, means_value, means_count, with_entry}
 use Rattle.rules.specs.Taking.{Taken, taking}
 use Rattle.rules.specs.Keeping.{as_kept, still_kept, keep_or_drop, Numbered, kept_from}
-use Rattle.rules.specs.Records.{overwritten}
+use Rattle.rules.specs.Records.{overlaid}
 use Rattle.rules.specs.Steps.{and_then, meaning_takes, meaning_kept, kept_entries, add_taken, list_takes, value_record, add_read, list_reads, count_read, read_into}
-use Rattle.rules.proofs.Buffers.{overwritten_more}
-use Rattle.rules.proofs.Takes.{kept_valued, Took, took_few}
+use Rattle.rules.proofs.Overlaid.{overlaid_one, behind, back, back_same, back_some, laid_before}
+use Rattle.rules.proofs.Takes.{kept_valued}
 
 add_none : (o : Option (ℕ × List ParamRecord)) → o ≡ add_read (0, 0, 0) [] o
 add_none None = refl
@@ -16,16 +16,6 @@ add_none (Some u) = ap Some (rw zero-add)
 
 abbrev first_read_kept : ℕ → Entry → List Entry → Option ℕ → List Numbered
 first_read_kept i e es o = keep_or_drop o (kept_from (i + 1) 0 es) (λ m. record { number = i; entry = as_kept e } ∷ kept_from (i + 1) m es)
-
-pub read_skip : (oe : Option Entry) (es : List Entry) (i n : ℕ) (lv at : ℕ) (p : List ℕ) → None ≡ still_kept (means_optional oe) n → list_reads (kept_from i n (with_entry oe es)) lv at p ≡ list_reads (kept_from (i + means_count oe) 0 es) lv at p
-read_skip None es i n lv at p h = let z : ◌≡◌ {A = ℕ} 0 1 = cc in absurd (omega arith)
-read_skip (Some e) es i n lv at p h = ap (λ o. list_reads (first_read_kept i e es o) lv at p) (sym h)
-
-pub read_stop : (oe : Option Entry) (es : List Entry) (i n m : ℕ) (lv at : ℕ) (p : List ℕ) → Some m ≡ still_kept (means_optional oe) n → None ≡ meaning_takes (meaning_kept oe) p → list_reads (kept_from i n (with_entry oe es)) lv at p ≡ None
-read_stop None es i n m lv at p h k = let z : ◌≡◌ {A = ℕ} 0 1 = cc in absurd (omega arith)
-read_stop (Some e) es i n m lv at p h k =
-    ap (λ o. list_reads (first_read_kept i e es o) lv at p) (sym h)
-    ∙ ap (λ o. and_then o (λ t. add_read t (value_record (has_value (as_kept e)) i lv at t) (list_reads (kept_from (i + 1) m es) lv (at + t.0) (drop t.0 p)))) (sym k)
 
 pub read_go : (oe : Option Entry) (es : List Entry) (i n m : ℕ) (lv at : ℕ) (p : List ℕ) (t : Taken) → Some m ≡ still_kept (means_optional oe) n → Some t ≡ meaning_takes (meaning_kept oe) p → list_reads (kept_from i n (with_entry oe es)) lv at p ≡ add_read t (value_record (means_value oe) i lv at t) (list_reads (kept_from (i + means_count oe) m es) lv (at + t.0) (drop t.0 p))
 read_go None es i n m lv at p t h k =
@@ -71,43 +61,38 @@ bit_on : (v : Bool) → (◌≡◌ {A = ℕ} (cond v 1 0) 0 → ⊥) → v ≡ t
 bit_on true e = refl
 bit_on false e = absurd (e refl)
 
-some_add : (t : Taken) (rs : List ParamRecord) (o : Option (ℕ × List ParamRecord)) → is_some (add_read t rs o) ≡ is_some o
-some_add t rs None = refl
-some_add t rs (Some u) = refl
+pub read_at : (oe : Option Entry) (es : List Entry) (i n m : ℕ) (lv at : ℕ) (p : List ℕ) (t : Taken) (next at' : ℕ) (p' : List ℕ) → Some m ≡ still_kept (means_optional oe) n → Some t ≡ meaning_takes (meaning_kept oe) p → next ≡ i + means_count oe → at' ≡ at + t.0 → p' ≡ drop t.0 p → list_reads (kept_from i n (with_entry oe es)) lv at p ≡ add_read t (value_record (means_value oe) i lv at t) (list_reads (kept_from next m es) lv at' p')
+read_at oe es i n m lv at p t next at' p' h k e f g = rw (e, f, g) (read_go oe es i n m lv at p t h k)
 
-into_add : (p : ℕ) (ys : List ParamRecord) (t : Taken) (o : Option (ℕ × List ParamRecord)) → read_into o p ys ≡ read_into (add_read t [] o) p ys
-into_add p ys t None = refl
-into_add p ys t (Some u) = refl
-
-pub read_at : (oe : Option Entry) (es : List Entry) (i n m : ℕ) (lv at : ℕ) (p : List ℕ) (t : Taken) (next : ℕ) → Some m ≡ still_kept (means_optional oe) n → Took (meaning_kept oe) p t → next ≡ i + means_count oe → list_reads (kept_from i n (with_entry oe es)) lv at p ≡ add_read t (value_record (means_value oe) i lv at t) (list_reads (kept_from next m es) lv (at + t.0) (take (length p - t.0) (drop t.0 p)))
-read_at oe es i n m lv at p t next h k e = rw (e, k.rest) (read_go oe es i n m lv at p t h k.is)
-
-pub read_few : (es : List Entry) (i n : ℕ) (lv at : ℕ) (p : List ℕ) (u : ℕ × List ParamRecord) → list_reads (kept_from i n es) lv at p ≡ Some u → length u.1 ≤ length es
-read_few es i n lv at p u h = took_few n es p (u.0, length u.1) (sym (takes_read es i n lv at p ∙ ap count_read h))
-
--- what is known after the rest was read, for each way out
-module _ (whole rest : Option (ℕ × List ParamRecord)) (t : Taken) (v : Bool) (i lv at own p : ℕ) (ys zs : List ParamRecord) (is : whole ≡ add_read t (value_record v i lv at t) rest) (bits : own ≡ cond v 1 0) (written : zs ≡ read_into rest (p + own) ys) where
-  pub exit_none : false ≡ is_some rest → record { test : false ≡ is_some whole; written : zs ≡ read_into whole p ys }
-  exit_none s = let n : rest ≡ None = none_from rest s in
+-- What is known once the rest was read into the buffer behind the first value's record, for each way out.
+module _ (whole rest : Option (ℕ × List ParamRecord)) (t : Taken) (v : Bool) (i lv at own : ℕ) (ys zs : List ParamRecord) (is : whole ≡ add_read t (value_record v i lv at t) rest) (bits : own ≡ cond v 1 0) (room : own ≤ length ys) (written : zs ≡ read_into rest (behind own ys)) where
+  pub exit_none : false ≡ is_some rest → record { test : false ≡ is_some whole; written : back own ys zs ≡ read_into whole ys }
+  exit_none s =
+      let n : rest ≡ None = none_from rest s in
       let w : whole ≡ None = is ∙ ap (add_read t (value_record v i lv at t)) n in
-      record { test = rw w; written = rw w (written ∙ ap (λ o. read_into o (p + own) ys) n) }
+      record { test = rw w; written = ap (back own ys) (written ∙ ap (λ o. read_into o (behind own ys)) n) ∙ back_same ys own room ∙ ap (λ o. read_into o ys) (sym w) }
 
-  pub exit_same : true ≡ is_some rest → own ≡ 0 → record { test : true ≡ is_some whole; written : zs ≡ read_into whole p ys }
+  pub exit_same : true ≡ is_some rest → own ≡ 0 → record { test : true ≡ is_some whole; written : back own ys zs ≡ read_into whole ys }
   exit_same s z =
       let off : v ≡ false = bit_off v (sym bits ∙ z) in
-      let w : whole ≡ add_read t [] rest = is ∙ ap (λ b. add_read t (value_record b i lv at t) rest) off in
-      record { test = s ∙ sym (some_add t [] rest) ∙ ap is_some (sym w); written = written ∙ ap (λ k. read_into rest k ys) (ap (λ k. p + k) z ∙ add-zero p) ∙ into_add p ys t rest ∙ ap (λ o. read_into o p ys) (sym w) }
+      let u = some_from rest s in
+      let w : whole ≡ Some (t.0 + u.0.0, u.0.1) = is ∙ ap (λ b. add_read t (value_record b i lv at t) rest) off ∙ ap (add_read t []) u.1 in
+      record { test = rw w; written = ap (back own ys) (written ∙ ap (λ o. read_into o (behind own ys)) u.1) ∙ laid_before ys own room [] u.0.1 z ∙ ap (λ o. read_into o ys) (sym w) }
 
-  pub exit_more : (len : ℕ) → true ≡ is_some rest → (own ≡ 0 → ⊥) → ((u : ℕ × List ParamRecord) → rest ≡ Some u → length u.1 ≤ len) → p + own + len ≤ length ys → record { test : true ≡ is_some whole; written : set zs p (record { level = lv; entry = i; start = at + t.1; len = t.2 }) ≡ read_into whole p ys }
-  exit_more len s z few room =
+  pub exit_more : true ≡ is_some rest → (own ≡ 0 → ⊥) → record { test : true ≡ is_some whole; written : set (back own ys zs) 0 (record { level = lv; entry = i; start = at + t.1; len = t.2 }) ≡ read_into whole ys }
+  exit_more s z =
       let on : v ≡ true = bit_on v (λ e. z (bits ∙ e)) in
       let one : own ≡ 1 = bits ∙ ap (λ b. cond b 1 0) on in
       let u = some_from rest s in
       let x : ParamRecord = record { level = lv; entry = i; start = at + t.1; len = t.2 } in
       let w : whole ≡ Some (t.0 + u.0.0, x ∷ u.0.1) = is ∙ ap (λ b. add_read t (value_record b i lv at t) rest) on ∙ ap (add_read t (x ∷ [])) u.1 in
-      let short = few u.0 u.1 in
-      let fits : p + 1 + length u.0.1 ≤ length ys = omega arith in
+      let sub : zs ≡ overlaid (behind own ys) u.0.1 = written ∙ ap (λ o. read_into o (behind own ys)) u.1 in
+      let some : 0 < length (back own ys (overlaid (behind own ys) u.0.1)) = back_some ys own room (overlaid (behind own ys) u.0.1) (omega arith) in
       record {
         test = rw w;
-        written = ap (λ f. set f p x) (written ∙ ap (λ o. read_into o (p + own) ys) u.1 ∙ ap (λ k. overwritten ys (p + k) u.0.1) one) ∙ overwritten_more ys p x u.0.1 fits ∙ ap (λ o. read_into o p ys) (sym w);
+        written =
+            ap (λ f. set (back own ys f) 0 x) sub
+            ∙ overlaid_one (back own ys (overlaid (behind own ys) u.0.1)) x some
+            ∙ laid_before ys own room (x ∷ []) u.0.1 one
+            ∙ ap (λ o. read_into o ys) (sym w);
       }

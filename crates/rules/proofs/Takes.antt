@@ -1,52 +1,23 @@
 -- A list takes a path one entry after another.
-use Rattle.std.proofs.Common.{◌≡◌, ℕ, ◌+◌, ◌-◌, ◌≤◌, Bool, true, false, cond, List, [], ◌∷◌, length, take, drop, Some, None, Option, sym, refl, ap, ◌∙◌, subst, add-zero, zero-add, arith, length-drop}
-use Rattle.std.proofs.lemmas.List.{drop-drop, take_rest}
-use Rattle.std.proofs.lemmas.Bool.{cond-true, cond_both, both_ways}
+use Rattle.std.proofs.Common.{◌≡◌, ℕ, ◌+◌, ◌≤◌, Bool, true, false, cond, List, [], ◌∷◌, length, drop, Some, None, Option, sym, refl, ◌∙◌, subst, arith, length-drop}
+use Rattle.std.proofs.lemmas.List.{drop-drop}
+use Rattle.std.proofs.lemmas.Bool.{cond-true, cond_both}
 use Rattle.rules.specs.Paths.{rooted, lawful}
-use Rattle.rules.specs.Entries.{Entry, is_optional, has_value, means_optional, means_value, means_count, with_entry}
+use Rattle.rules.specs.Entries.{Entry, is_optional, has_value, means_value, means_count, with_entry}
 use Rattle.rules.specs.Taking.{Taken, taking, testing}
 use Rattle.rules.specs.Keeping.{optionals, as_kept, still_kept, keep_or_drop}
-use Rattle.rules.specs.Steps.{and_then, meaning_takes, meaning_kept, kept_entries, add_taken, list_takes}
+use Rattle.rules.specs.Steps.{and_then, meaning_takes, kept_entries, add_taken, list_takes}
 use Rattle.rules.proofs.KeptEntry.{as_kept_lem}
-use Rattle.rules.proofs.Sound.{taking_sound, taken_sound, lawful_rooted, lawful_drop}
+use Rattle.rules.proofs.Sound.{taking_sound, taken_sound, lawful_rooted}
 
 pub kept_valued : (e : Entry) → has_value (as_kept e) ≡ has_value e
 kept_valued e = (as_kept_lem e).valued
-
-next_none : (o : Option (ℕ × ℕ)) → o ≡ add_taken (0, 0, 0) false o
-next_none None = refl
-next_none (Some u) = ap Some (rw (zero-add, add-zero))
-
--- a list whose first entry is not kept
-pub takes_skip : (oe : Option Entry) (es : List Entry) (n : ℕ) (p : List ℕ) → None ≡ still_kept (means_optional oe) n → list_takes (kept_entries n (with_entry oe es)) p ≡ list_takes (kept_entries 0 es) p
-takes_skip None es n p h = let z : ◌≡◌ {A = ℕ} 0 1 = cc in absurd (omega arith)
-takes_skip (Some e) es n p h = ap (λ o. list_takes (keep_or_drop o (kept_entries 0 es) (λ m. as_kept e ∷ kept_entries m es)) p) (sym h)
-
--- a list whose first entry is kept, and refuses
-pub takes_stop : (oe : Option Entry) (es : List Entry) (n m : ℕ) (p : List ℕ) → Some m ≡ still_kept (means_optional oe) n → None ≡ meaning_takes (meaning_kept oe) p → list_takes (kept_entries n (with_entry oe es)) p ≡ None
-takes_stop None es n m p h k = let z : ◌≡◌ {A = ℕ} 0 1 = cc in absurd (omega arith)
-takes_stop (Some e) es n m p h k =
-    ap (λ o. list_takes (keep_or_drop o (kept_entries 0 es) (λ m. as_kept e ∷ kept_entries m es)) p) (sym h)
-    ∙ ap (λ o. and_then o (λ t. add_taken t (has_value (as_kept e)) (list_takes (kept_entries m es) (drop t.0 p)))) (sym k)
-
--- a list whose first entry is kept, and takes something
-pub takes_more : (oe : Option Entry) (es : List Entry) (n m : ℕ) (p : List ℕ) (t : Taken) → Some m ≡ still_kept (means_optional oe) n → Some t ≡ meaning_takes (meaning_kept oe) p → list_takes (kept_entries n (with_entry oe es)) p ≡ add_taken t (means_value oe) (list_takes (kept_entries m es) (drop t.0 p))
-takes_more None es n m p t h k =
-    let e : m ≡ n = cc in
-    let f : t ≡ (0, 0, 0) = cc in
-    rw (f, e) (next_none (list_takes (kept_entries n es) p))
-takes_more (Some e) es n m p t h k =
-    ap (λ o. list_takes (keep_or_drop o (kept_entries 0 es) (λ m. as_kept e ∷ kept_entries m es)) p) (sym h)
-    ∙ ap (λ o. and_then o (λ t. add_taken t (has_value (as_kept e)) (list_takes (kept_entries m es) (drop t.0 p)))) (sym k)
-    ∙ ap (λ v. add_taken t v (list_takes (kept_entries m es) (drop t.0 p))) (kept_valued e)
 
 -- what is known once an entry has taken something of a lawful path
 pub record Took (oe : Option Entry) (p : List ℕ) (t : Taken) : Type 0 where
   pub within : t.0 ≤ length p
   pub value : t.1 + t.2 ≤ length p
-  pub rest : take (length p - t.0) (drop t.0 p) ≡ drop t.0 p
-  pub lawful_rest : lawful (take (length p - t.0) (drop t.0 p)) ≡ true
-  pub rooted_rest : rooted (take (length p - t.0) (drop t.0 p)) ≡ true
+  pub rooted_rest : rooted (drop t.0 p) ≡ true
   pub is : Some t ≡ meaning_takes oe p
 
 -- on a lawful path a kind does what its meaning takes
@@ -58,14 +29,7 @@ pub took : (oe : Option Entry) (p : List ℕ) (t : Taken) → lawful p ≡ true 
 took oe p t l h =
     let i : Some t ≡ meaning_takes oe p = h ∙ tested oe p l in
     let w = taken_sound oe p t (lawful_rooted p l) i in
-    record {
-      within = w.within;
-      value = w.value;
-      rest = take_rest p t.0;
-      lawful_rest = rw (take_rest p t.0) (lawful_drop p t.0 l w.rooted_rest);
-      rooted_rest = rw (take_rest p t.0) w.rooted_rest;
-      is = i;
-    }
+    record { within = w.within; value = w.value; rooted_rest = w.rooted_rest; is = i }
 
 pub refused : (oe : Option Entry) (p : List ℕ) → lawful p ≡ true → None ≡ testing oe p → None ≡ meaning_takes oe p
 refused oe p l h = h ∙ tested oe p l
@@ -122,10 +86,6 @@ pub optionals_le : (es : List Entry) → optionals es ≤ length es
 optionals_le [] = omega arith
 optionals_le (e ∷ es) = cond_both (is_optional e) (optionals es + 1) (optionals es) (λ n. n ≤ length (e ∷ es)) (λ _. omega (arith, optionals_le es)) (λ _. omega (arith, optionals_le es))
 
-pub entries_le : (oe : Option Entry) (es : List Entry) → (length es ≤ length (with_entry oe es)) × (length es + 1 ≤ length (with_entry oe es) + 1)
-entries_le None es = (omega arith, omega arith)
-entries_le (Some e) es = (omega arith, omega arith)
-
 pub bit : (b : Bool) → cond b 1 0 ≤ 1
 bit true = omega arith
 bit false = omega arith
@@ -139,25 +99,13 @@ pub value_le : (oe : Option Entry) → cond (means_value oe) 1 0 ≤ means_count
 value_le None = omega arith
 value_le (Some e) = bit (has_value e)
 
-pub optional_one : (oe : Option Entry) → means_optional oe ≡ true → means_count oe ≡ 1
-optional_one None h = absurd (both_ways false refl h)
-optional_one (Some e) h = refl
-
+-- what is known once a list has taken something of a lawful path
 pub record ListTook (es : List Entry) (p : List ℕ) (taken values : ℕ) : Type 0 where
   pub within : taken ≤ length p
   pub few : values ≤ length es
-  pub rest : take (length p - taken) (drop taken p) ≡ drop taken p
-  pub lawful_rest : lawful (take (length p - taken) (drop taken p)) ≡ true
-  pub long : taken + length (take (length p - taken) (drop taken p)) ≡ length p
+  pub rooted_rest : rooted (drop taken p) ≡ true
 
 pub list_took : (n : ℕ) (es : List Entry) (p : List ℕ) (taken values : ℕ) → lawful p ≡ true → Some (taken, values) ≡ list_takes (kept_entries n es) p → ListTook es p taken values
 list_took n es p taken values l h =
     let s = took_within n es p (taken, values) (lawful_rooted p l) h in
-    let within : taken ≤ length p = s.0 in
-    record {
-      within = within;
-      few = s.1;
-      rest = take_rest p taken;
-      lawful_rest = rw (take_rest p taken) (lawful_drop p taken l (subst (Within p) (sym h) (takes_sound (kept_entries n es) p (lawful_rooted p l))).1);
-      long = rw (take_rest p taken) (omega (arith, length-drop taken p));
-    }
+    record { within = s.0; few = s.1; rooted_rest = (subst (Within p) (sym h) (takes_sound (kept_entries n es) p (lawful_rooted p l))).1 }

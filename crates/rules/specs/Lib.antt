@@ -23,3 +23,4 @@ pub mod Writing
 pub mod Choices
 pub mod Values
 pub mod Variants
+pub mod TextParts

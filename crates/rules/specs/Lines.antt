@@ -1,7 +1,8 @@
 -- LINES: one for each childless route, as the routes are declared, a parent's children in its stead.
-use Rattle.std.specs.Prelude.{ℕ, cond, not, ◌&&◌, List, [], ◌∷◌, ◌++◌, ◌==◌}
+use Rattle.std.specs.Prelude.{ℕ, cond, not, ◌&&◌, List, [], ◌∷◌, ◌++◌, length, ◌==◌}
 use Rattle.rules.specs.declared.mode.SsrMode.{SsrMode}
 use Rattle.rules.specs.declared.mode.SsrMode.TheVariants.{OutOfOrder}
+use Rattle.rules.specs.declared.records.LineRecord.{LineRecord}
 use Rattle.rules.specs.Entries.{Entry}
 use Rattle.rules.specs.Modes.{higher, is_static}
 use Rattle.rules.specs.Forests.{Route, Forest, none, leaf, nest}
@@ -13,6 +14,10 @@ pub record Line : Type 0 where
   pub entries : List Entry
   pub mode : SsrMode
   pub hooks : List ℕ
+
+-- how much a line has, and its mode
+abbrev pub line_record : Line → LineRecord
+line_record l = record { ids = length l.ids; entries = length l.entries; hooks = length l.hooks; mode = l.mode }
 
 -- the end of a line, behind its last route
 abbrev pub no_line : Line

@@ -1,5 +1,5 @@
 -- LISTS THAT ARE HANDED OVER, each entry as a kind and a place in a text beside it: what they mean, and what is at fault in them.
-use Rattle.std.specs.Prelude.{ℕ, ◌+◌, ◌-◌, Bool, true, false, cond, ◌&&◌, ◌||◌, List, [], ◌∷◌, length, take, drop, Some, None, Ok, Err, Option, Result, nat_le, nat_lt}
+use Rattle.std.specs.Prelude.{ℕ, ◌+◌, Bool, true, false, cond, ◌&&◌, List, [], ◌∷◌, length, drop, Some, None, Ok, Err, Option, Result, nat_le, nat_lt}
 use Rattle.std.specs.Option.{option_map}
 use Rattle.rules.specs.declared.segment.SegmentKind.{SegmentKind}
 use Rattle.rules.specs.declared.segment.SegmentKind.TheVariants.{Unit as AUnit, Static, Param, OptionalParam, Splat}
@@ -13,6 +13,7 @@ use Rattle.rules.specs.Paths.{slash_free}
 use Rattle.rules.specs.Records.{text_in}
 use Rattle.rules.specs.Refusals.{Told, answered, refused, entry}
 use Rattle.rules.specs.Entries.{Entry, unit, static, param, optional, splat, longest_text}
+use Rattle.rules.specs.TextParts.{bytes_in, part_of}
 
 -- the entry of a kind with a text or name
 abbrev pub entry_of : SegmentKind → List ℕ → Entry
@@ -47,10 +48,6 @@ kind_fault Param t = name_fault t
 kind_fault OptionalParam t = name_fault t
 kind_fault Splat t = name_fault t
 
--- the bytes at a place of a text, if it lies within it
-abbrev pub part_of : List ℕ → ℕ → ℕ → Option (List ℕ)
-part_of text start len = cond (nat_lt (length text) start || nat_lt (length text - start) len) None (Some (take len (drop start text)))
-
 abbrev pub fault_in : SegmentKind → Option (List ℕ) → Option Cause
 fault_in k None = Some Place
 fault_in k (Some t) = kind_fault k t
@@ -64,11 +61,11 @@ is_unit Splat = false
 
 -- what is wrong with an entry; a Unit's place is ignored
 abbrev pub place_fault : List ℕ → EntryPlace → Option Cause
-place_fault text e = cond (is_unit e.kind) None (fault_in e.kind (part_of text e.start e.len))
+place_fault text e = cond (is_unit e.kind) None (fault_in e.kind (part_of text e.place))
 
 -- the entry at a place of a text, and those of a list
 abbrev pub entry_at : List ℕ → EntryPlace → Entry
-entry_at text e = entry_of e.kind (take e.len (drop e.start text))
+entry_at text e = entry_of e.kind (bytes_in text e.place)
 
 abbrev pub entries_in : List ℕ → List EntryPlace → List Entry
 entries_in text [] = []

@@ -1,5 +1,5 @@
 -- The records that calls give out, and the buffers that hold them.
-use Rattle.std.specs.Prelude.{ℕ, ◌+◌, ◌-◌, Bool, true, false, ◌&&◌, List, [], ◌∷◌, ◌++◌, length, take, drop, replicate, Some, None, Option, ◌==◌, slice_index, slice_set}
+use Rattle.std.specs.Prelude.{ℕ, ◌-◌, Bool, true, false, ◌&&◌, List, [], ◌∷◌, ◌++◌, length, take, drop, replicate, Some, None, Option, ◌==◌, slice_index, slice_set}
 use Rattle.rules.specs.declared.records.LevelRecord.{LevelRecord}
 use Rattle.rules.specs.declared.records.ParamRecord.{ParamRecord}
 use Rattle.rules.specs.declared.segment.PathSegment.{PathSegment}
@@ -14,14 +14,6 @@ zero_level = record { id = 0; start = 0; len = 0 }
 
 abbrev pub zero_param : ParamRecord
 zero_param = record { level = 0; entry = 0; start = 0; len = 0 }
-
--- each kind's number
-abbrev pub kind_number : SegmentKind → ℕ
-kind_number AUnit = 0
-kind_number Static = 1
-kind_number Param = 2
-kind_number OptionalParam = 3
-kind_number Splat = 4
 
 -- a text of a kind, zero-filled to 24 bytes
 abbrev pub record_with : SegmentKind → List ℕ → PathSegment
@@ -44,18 +36,18 @@ abbrev pub records_of : List Entry → List PathSegment
 records_of [] = []
 records_of (e ∷ es) = record_of e ∷ records_of es
 
--- a buffer after a kind has appended its entry, if it has one, at a place; past its end a buffer takes nothing
-abbrev pub appended : List PathSegment → ℕ → Option Entry → List PathSegment
-appended out at None = out
-appended out at (Some e) = slice_set out at (record_of e)
+-- a buffer after a kind has put its entry, if it has one, at the front; an empty buffer takes nothing
+abbrev pub put_front : List PathSegment → Option Entry → List PathSegment
+put_front out None = out
+put_front out (Some e) = slice_set out 0 (record_of e)
 
 -- some records from the start of a buffer of n, and zero ones behind them
 abbrev pub padded : {A : Type 0} → List A → A → ℕ → List A
 padded xs z n = xs ++ replicate (n - length xs) z
 
--- a buffer with some records written over it from a place on
-abbrev pub overwritten : {A : Type 0} → List A → ℕ → List A → List A
-overwritten ys at xs = take at ys ++ (xs ++ drop (at + length xs) ys)
+-- a buffer with some records written over its front
+abbrev pub overlaid : {A : Type 0} → List A → List A → List A
+overlaid ys xs = xs ++ drop (length xs) ys
 
 -- the text or name of a record
 abbrev pub text_in : PathSegment → List ℕ

@@ -1,7 +1,8 @@
 -- REFUSALS: what each case of a refusal is told as, and what a call tells.
-use Rattle.std.specs.Prelude.{ℕ, List, Ok, Err, codes, Result}
+use Rattle.std.specs.Prelude.{ℕ, List, [], ◌++◌, Ok, Err, codes, decimal, Result}
 use Rattle.rules.specs.declared.refusal.Cause.{Cause}
 use Rattle.rules.specs.declared.refusal.Cause.TheVariants.{Count, Place, Length, Slash}
+use Rattle.rules.specs.declared.refusal.EntryFault.{EntryFault}
 use Rattle.rules.specs.declared.refusal.Refusal.{Refusal}
 use Rattle.rules.specs.declared.refusal.Refusal.TheVariants.{LongPath, Unrooted, ShortOut, NoRoute, BadId, NotStanding, TooDeep, BookFull, BadEntry, MixedParent, ManyLines, HasChildren, NoLine, ManyOptionals, NoVariant, HasOptional, ManyPaths, NoPath, NoFit}
 
@@ -59,6 +60,18 @@ cause_name Count = codes "count"
 cause_name Place = codes "place"
 cause_name Length = codes "length"
 cause_name Slash = codes "slash"
+
+-- what is printed of a fault, as `entry 2: slash`
+abbrev pub fault_text : EntryFault → List ℕ
+fault_text f = codes "entry " ++ (decimal f.number ++ (codes ": " ++ cause_name f.cause))
+
+-- what is printed of a refusal: its number, its name and the fault that it carries, as in `9 BadEntry (entry 2: slash)`
+abbrev pub carried_text : Carried → List ℕ
+carried_text bare = []
+carried_text (entry i c) = codes " (" ++ (fault_text (record { number = i; cause = c }) ++ codes ")")
+
+abbrev pub refusal_text : Refusal → List ℕ
+refusal_text r = decimal (numbered r).0 ++ (codes " " ++ (name_of r ++ carried_text (numbered r).1))
 
 -- What a call tells: its answer, or a refusal by its number with what it carries.
 pub data Told (A : Type 0) : Type 0 where

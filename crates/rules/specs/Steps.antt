@@ -1,6 +1,6 @@
 -- The reader's steps, entry by entry. Nothing here is to be believed: the law that what is read so is the answer of the first
 -- kept list that the path spells, and nothing just where none is spelled, is proved of them (Admission, `ReaderAdmits`).
-use Rattle.std.specs.Prelude.{◌≡◌, ℕ, ◌+◌, ◌-◌, Bool, true, false, cond, ◌||◌, List, [], ◌∷◌, ◌++◌, length, drop, Some, None, Option, nat_le}
+use Rattle.std.specs.Prelude.{◌≡◌, ℕ, ◌+◌, ◌-◌, Bool, true, false, cond, ◌||◌, List, [], ◌∷◌, ◌++◌, length, drop, Some, None, Option, nat_le, nat_lt}
 use Rattle.rules.specs.declared.records.LevelRecord.{LevelRecord}
 use Rattle.rules.specs.declared.records.ParamRecord.{ParamRecord}
 use Rattle.rules.specs.declared.records.LineRecord.{LineRecord}
@@ -12,8 +12,9 @@ use Rattle.rules.specs.Taking.{Taken, nothing, taking}
 use Rattle.rules.specs.Keeping.{as_kept, still_kept, keep_or_drop, Numbered}
 use Rattle.rules.specs.KeptLists.{KeptRoute, KeptList, entries_of}
 use Rattle.rules.specs.Answers.{Answer, no_records, any_bare, part_length}
-use Rattle.rules.specs.Records.{overwritten, records_of}
-use Rattle.rules.specs.Lines.{Line}
+use Rattle.rules.specs.Records.{overlaid, records_of}
+use Rattle.rules.specs.Forests.{Forest}
+use Rattle.rules.specs.Lines.{Line, line_record, lines}
 
 abbrev pub and_then : {A B : Type 0} → Option A → (A → Option B) → Option B
 and_then None f = None
@@ -69,10 +70,10 @@ abbrev pub count_read : Option (ℕ × List ParamRecord) → Option (ℕ × ℕ)
 count_read None = None
 count_read (Some u) = Some (u.0, length u.1)
 
--- a buffer after its records were written
-abbrev pub read_into : Option (ℕ × List ParamRecord) → ℕ → List ParamRecord → List ParamRecord
-read_into None at ys = ys
-read_into (Some u) at ys = overwritten ys at u.1
+-- a buffer after its records were written over its front
+abbrev pub read_into : Option (ℕ × List ParamRecord) → List ParamRecord → List ParamRecord
+read_into None ys = ys
+read_into (Some u) ys = overlaid ys u.1
 
 -- what a kept list reads
 abbrev pub add_level : KeptRoute → ℕ → ℕ × List ParamRecord → Option Answer → Option Answer
@@ -88,36 +89,49 @@ abbrev pub first_read : List KeptList → ℕ → ℕ → List ℕ → Option An
 first_read [] level at p = None
 first_read (l ∷ ls) level at p = or_else (kept_reads l.routes level at p) (first_read ls level at p)
 
--- what a match leaves in the buffers, from the records l and p on, and how many records are in use then
-abbrev pub levels_after : Option Answer → ℕ → List LevelRecord → List LevelRecord
-levels_after None at ys = ys
-levels_after (Some a) at ys = overwritten ys at a.levels
+-- what a match leaves in the buffers that it is lent, and how many records of each it uses
+abbrev pub levels_after : Option Answer → List LevelRecord → List LevelRecord
+levels_after None ys = ys
+levels_after (Some a) ys = overlaid ys a.levels
 
-abbrev pub params_after : Option Answer → ℕ → List ParamRecord → List ParamRecord
-params_after None at ys = ys
-params_after (Some a) at ys = overwritten ys at a.params
+abbrev pub params_after : Option Answer → List ParamRecord → List ParamRecord
+params_after None ys = ys
+params_after (Some a) ys = overlaid ys a.params
 
-abbrev pub in_use : Option Answer → ℕ → ℕ → Option (ℕ × ℕ)
-in_use None l p = None
-in_use (Some a) l p = Some (l + length a.levels, p + length a.params)
+abbrev pub in_use : Option Answer → Option (ℕ × ℕ)
+in_use None = None
+in_use (Some a) = Some (length a.levels, length a.params)
 
-pub record Matched (o : Option Answer) (l p : ℕ) (r : Option (ℕ × ℕ)) (ls ls' : List LevelRecord) (ps ps' : List ParamRecord) : Type 0 where
-  pub result : r ≡ in_use o l p
-  pub levels : ls' ≡ levels_after o l ls
-  pub params : ps' ≡ params_after o p ps
+pub record Matched (o : Option Answer) (r : Option (ℕ × ℕ)) (ls ls' : List LevelRecord) (ps ps' : List ParamRecord) : Type 0 where
+  pub result : r ≡ in_use o
+  pub levels : ls' ≡ levels_after o ls
+  pub params : ps' ≡ params_after o ps
 
 -- what is left of some room behind n records
 abbrev pub room_after : ℕ → ℕ → Option ℕ
 room_after n room = cond (nat_le n room) (Some (room - n)) None
 
--- what giving out a line leaves in the buffers, from the records i, e and h on, and where it ends
-pub record GivenOut (l : Line) (i e h : ℕ) (r : LineRecord) (is is' : List ℕ) (es es' : List PathSegment) (hs hs' : List ℕ) : Type 0 where
-  pub end : r ≡ record { ids = i + length l.ids; entries = e + length l.entries; hooks = h + length l.hooks; mode = l.mode }
-  pub ids : is' ≡ overwritten is i l.ids
-  pub entries : es' ≡ overwritten es e (records_of l.entries)
-  pub hooks : hs' ≡ overwritten hs h l.hooks
+-- what giving out a line leaves in the buffers that it is lent, and what it answers
+pub record GivenOut (l : Line) (r : LineRecord) (is is' : List ℕ) (es es' : List PathSegment) (hs hs' : List ℕ) : Type 0 where
+  pub counts : r ≡ line_record l
+  pub ids : is' ≡ overlaid is l.ids
+  pub entries : es' ≡ overlaid es (records_of l.entries)
+  pub hooks : hs' ≡ overlaid hs l.hooks
 
 -- the same of a kept list
-pub record KeptOut (ks : List KeptRoute) (at r : ℕ) (es es' : List PathSegment) : Type 0 where
-  pub end : r ≡ at + length (entries_of ks)
-  pub entries : es' ≡ overwritten es at (records_of (entries_of ks))
+pub record KeptOut (ks : List KeptRoute) (r : ℕ) (es es' : List PathSegment) : Type 0 where
+  pub count : r ≡ length (entries_of ks)
+  pub entries : es' ≡ overlaid es (records_of (entries_of ks))
+
+-- the number of a line behind n others, or None where it is one of those
+abbrev pub line_behind : ℕ → ℕ → Option ℕ
+line_behind n j = cond (nat_lt j n) None (Some (j - n))
+
+-- which of some items has a line, and the line's number there
+abbrev pub or_later : {X : Type 0} → X → ℕ → Option ℕ → (ℕ → Option (X × ℕ)) → Option (X × ℕ)
+or_later x j None later = Some (x, j)
+or_later x j (Some m) later = later m
+
+abbrev pub line_in : {X : Type 0} → (X → Forest) → List X → ℕ → Option (X × ℕ)
+line_in f [] j = None
+line_in f (x ∷ xs) j = or_later x j (line_behind (length (lines (f x))) j) (line_in f xs)

@@ -1,21 +1,13 @@
 -- THE VALUES that paths are written with, and the paths of a list.
-use Rattle.std.specs.Prelude.{ℕ, ◌+◌, ◌-◌, Bool, cond, ◌||◌, List, [], ◌∷◌, length, take, drop, Some, None, Option, nat_lt, slice_index_or}
+use Rattle.std.specs.Prelude.{ℕ, ◌+◌, cond, ◌||◌, List, [], ◌∷◌, Some, None, Option, slice_index_or}
 use Rattle.std.specs.Str.{bytes_eq}
-use Rattle.rules.specs.declared.values.TextPlace.{TextPlace}
 use Rattle.rules.specs.declared.values.ValueRecord.{ValueRecord}
 use Rattle.rules.specs.declared.refusal.Cause.TheVariants.{Place}
 use Rattle.rules.specs.declared.refusal.EntryFault.{EntryFault}
 use Rattle.rules.specs.Entries.{Entry, unit, static, param, optional, splat, has_value}
 use Rattle.rules.specs.Choices.{choices, Apart}
+use Rattle.rules.specs.TextParts.{bytes_in, outside}
 use Rattle.rules.specs.Writing.{written}
-
--- the bytes at a place
-abbrev pub bytes_in : List ℕ → TextPlace → List ℕ
-bytes_in text p = take p.len (drop p.start text)
-
--- a place that does not lie within its text
-abbrev pub outside : List ℕ → TextPlace → Bool
-outside text p = nat_lt (length text) p.start || nat_lt (length text - p.start) p.len
 
 -- the first value record of which a place lies outside the text, by its number
 abbrev pub value_fault : List ℕ → ℕ → List ValueRecord → Option EntryFault

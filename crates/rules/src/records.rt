@@ -1,6 +1,6 @@
 use crate::mode::SsrMode;
 
-// A route's id, from 1 on; 0 is no id.
+// A route's id, from 1 on; 0 is no id. It is a number, as callers hand it over: that it is not 0 is told by a refusal.
 pub type RouteId = u16;
 
 // One matched route: its id, and the start and length of the part of the path that it matched.
@@ -12,7 +12,7 @@ pub struct LevelRecord {
 }
 
 impl LevelRecord {
-    // what an unused record holds
+    // what an unused record holds: a name that says it, where a default would not
     pub const ZERO: LevelRecord = LevelRecord {
         id: 0,
         start: 0,
@@ -30,7 +30,7 @@ pub struct ParamRecord {
 }
 
 impl ParamRecord {
-    // what an unused record holds
+    // what an unused record holds, likewise
     pub const ZERO: ParamRecord = ParamRecord {
         level: 0,
         entry: 0,

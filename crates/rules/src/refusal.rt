@@ -1,6 +1,6 @@
-ghost use Rattle.std.specs.Prelude.{◌≡◌};
+ghost use Rattle.std.specs.Prelude.{◌≡◌, Some};
 ghost use Rattle.rules.specs.declared.refusal.Refusal.TheVariants.{BadEntry};
-ghost use Rattle.rules.specs.Refusals.{numbered, name_of, cause_name};
+ghost use Rattle.rules.specs.Refusals.{numbered, name_of, cause_name, fault_text, refusal_text};
 
 use std::error::Error;
 use std::fmt;
@@ -69,7 +69,7 @@ pub enum Refusal {
 }
 
 impl Cause {
-    // Its name, as it is shown.
+    // Its name, as it is shown: in small letters, other than by `Debug`.
     pub fn name(self) -> &'static str
         ensures { result.now ≡ cause_name self }
     {
@@ -83,7 +83,7 @@ impl Cause {
 }
 
 impl Refusal {
-    // Its fixed number.
+    // Its fixed number. A `match`, since a case that carries a value has no cast to a number.
     pub fn number(self) -> u8
         ensures { result ≡ (numbered self).0 }
     {
@@ -110,7 +110,7 @@ impl Refusal {
         }
     }
 
-    // Its name, as it is shown.
+    // Its name, as it is shown: without the fault, other than by `Debug`.
     pub fn name(self) -> &'static str
         ensures { result.now ≡ name_of self }
     {
@@ -138,16 +138,32 @@ impl Refusal {
     }
 }
 
+// The name. By hand, here and below: a derive would spell names and numbers a second time.
+impl fmt::Display for Cause {
+    ghost output = { λ c. Some (cause_name c) };
+
+    fn fmt<W: fmt::Write>(&self, f: &mut fmt::Formatter<W>) -> fmt::Result {
+        write!(f, "{}", self.name())
+    }
+}
+
+// The number and the cause, as in `entry 2: slash`.
+impl fmt::Display for EntryFault {
+    ghost output = { λ e. Some (fault_text e) };
+
+    fn fmt<W: fmt::Write>(&self, f: &mut fmt::Formatter<W>) -> fmt::Result {
+        write!(f, "entry {}: {}", self.number, self.cause)
+    }
+}
+
 // The number, the name and what is carried, as in `9 BadEntry (entry 2: slash)`.
 impl fmt::Display for Refusal {
+    ghost output = { λ r. Some (refusal_text r) };
+
     fn fmt<W: fmt::Write>(&self, f: &mut fmt::Formatter<W>) -> fmt::Result {
-        let number = self.number();
-        let name = self.name();
-        write!(f, "{number} {name}")?;
+        write!(f, "{} {}", self.number(), self.name())?;
         if let Refusal::BadEntry(fault) = self {
-            let entry = fault.number;
-            let cause = fault.cause.name();
-            write!(f, " (entry {entry}: {cause})")?;
+            write!(f, " ({fault})")?;
         }
         Ok(())
     }

@@ -1,3 +1,5 @@
+use crate::values::TextPlace;
+
 // The kinds of entries.
 #[derive(Clone, Copy, PartialEq, Eq, Debug)]
 pub enum SegmentKind {
@@ -9,6 +11,7 @@ pub enum SegmentKind {
 }
 
 // An entry as it is given out: its kind, the length of its text or name, and 24 bytes of it, zero-filled.
+// The length stands beside the bytes, since this is the fixed format of records, which need no heap.
 #[derive(Clone, Copy, PartialEq, Eq, Debug)]
 pub struct PathSegment {
     pub kind: SegmentKind,
@@ -17,7 +20,7 @@ pub struct PathSegment {
 }
 
 impl PathSegment {
-    // what an unused record holds
+    // what an unused record holds, named for the same reason
     pub const ZERO: PathSegment = PathSegment {
         kind: SegmentKind::Unit,
         len: 0,
@@ -25,11 +28,10 @@ impl PathSegment {
     };
 }
 
-// An entry as it is handed over: its kind, and the place of its text or name in a text beside it. A Unit has no place: its start
-// and length are ignored.
+// An entry as it is handed over: its kind, and the place of its text or name in a text beside it. A Unit has none: its place
+// is ignored.
 #[derive(Clone, Copy, PartialEq, Eq, Debug)]
 pub struct EntryPlace {
     pub kind: SegmentKind,
-    pub start: usize,
-    pub len: usize,
+    pub place: TextPlace,
 }

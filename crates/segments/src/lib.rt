@@ -2,7 +2,9 @@
 #![tactic(auto)]
 
 pub mod as_path;
+pub mod fixed_kind;
 pub mod kind;
+pub mod of_kind;
 pub mod param_segments;
 pub mod segment_kind;
 pub mod static_segment;

@@ -1,19 +1,17 @@
-ghost use Rattle.std.specs.Prelude.{◌≡◌, true, ◌&&◌, length, drop, Some};
-ghost use Rattle.rules.specs.declared.segment.SegmentKind.TheVariants.{Static};
+ghost use Rattle.std.specs.Prelude.{◌≡◌, ◌&&◌, length, drop, Some};
+ghost use Rattle.rules.specs.declared.segment.SegmentKind.TheVariants.{Static as AStatic};
 ghost use Rattle.rules.specs.Paths.{rooted};
 ghost use Rattle.rules.specs.Entries.{static};
-ghost use Rattle.rules.specs.Taking.{begins, word_of, take_static};
-ghost use Rattle.rules.specs.Records.{kind_number, text_in};
-ghost use Rattle.rules.specs.Refusals.{told, read_off};
-ghost use Rattle.rules.specs.Places.{entry_made, fault_alone};
+ghost use Rattle.rules.specs.Taking.{begins, word_of, take_word, take_static};
+ghost use Rattle.rules.specs.Records.{text_in};
 ghost use Rattle.rules.proofs.RecordOf.{lawful_by_kind};
 
 use crate::as_path::AsPath;
+use crate::fixed_kind::FixedKind;
 use crate::kind::PossibleRouteMatch;
+use crate::of_kind::OfKind;
 use entries::path::{is_lawful, is_rooted};
-use entries::record::{append_record, record_of};
-use entries::segment::Segment;
-use rules::refusal::Refusal;
+use entries::record::{put_record, record_of};
 use rules::segment::{PathSegment, SegmentKind};
 
 // A text without its own leading slash.
@@ -30,67 +28,53 @@ fn word_of(text: &[u8]) -> &[u8]
 fn begins_with(rest: &[u8], word: &[u8]) -> bool
     ensures { result ≡ (begins word.now rest.now && rooted (drop (length word.now) rest.now)) }
 {
-    match rest.strip_prefix(word) {
-        Some(after) => is_rooted(after),
-        None => false,
-    }
+    rest.strip_prefix(word).is_some_and(is_rooted)
 }
 
-// A slash and the text, if the path begins so and then ends or goes on with a slash. The empty static takes nothing, and so does
-// the bare slash where a byte is still to come.
-pub(crate) fn take_static(text: &[u8], path: &[u8]) -> Option<(usize, usize, usize)>
-    requires { rooted path.now ≡ true }
-    ensures { result ≡ take_static text.now path.now }
+// A slash and a word, if the path begins so and then ends or goes on with a slash.
+pub fn take_word(word: &[u8], path: &[u8]) -> Option<(usize, usize, usize)>
+    ensures { result ≡ take_word word.now path.now }
 {
-    let word = word_of(text);
     match path {
-        [] => if text.is_empty() {
-            Some((0, 0, 0))
-        } else {
-            None
-        },
-        [b'/'] => if word.is_empty() {
-            Some((0, 0, 0))
-        } else {
-            None
-        },
-        [b'/', rest @ ..] => {
-            if word.is_empty() {
-                Some((0, 0, 0))
-            } else if begins_with(rest, word) {
-                Some((word.len() + 1, 0, 0))
-            } else {
-                None
-            }
-        }
+        [b'/', rest @ ..] if begins_with(rest, word) => Some((word.len() + 1, 0, 0)),
         _ => None,
     }
 }
 
-// A static text that is held in a record.
-#[derive(Clone, Copy)]
-pub struct Text {
-    segment: Segment,
-    ghost fixed: { kind_number segment.given.kind ≡ kind_number Static },
-}
-
-impl Text {
-    // Refusal 9 where the text has more than 24 bytes, or a slash after its first.
-    pub fn new(text: &[u8]) -> Result<Text, Refusal>
-        ensures { told (read_off (λ s. static (text_in s.segment.given)) result) ≡ fault_alone (entry_made Static text.now) }
-    {
-        let segment = Segment::alone(SegmentKind::Static, text)?;
-        Ok(Text { segment })
+// The same with the word of a text. The empty static takes nothing, and so does the bare slash where a byte is still to come.
+pub(crate) fn take_static(text: &[u8], path: &[u8]) -> Option<(usize, usize, usize)>
+    ensures { result ≡ take_static text.now path.now }
+{
+    let word = word_of(text);
+    // an arm for each shape of a path, the bare slash too, as the rule has them
+    match path {
+        [] => text.is_empty().then_some((0, 0, 0)),
+        [b'/'] => word.is_empty().then_some((0, 0, 0)),
+        [b'/', ..] if !word.is_empty() => take_word(word, path),
+        _ => word.is_empty().then_some((0, 0, 0)),
     }
 }
 
-impl AsPath for Text {
+// A static text that is held in a record.
+pub type Text = OfKind<Static>;
+
+// Its kind.
+#[derive(Clone, Copy)]
+pub struct Static;
+
+impl FixedKind for Static {
+    ghost KIND = { AStatic };
+
+    const KIND: SegmentKind = SegmentKind::Static;
+}
+
+impl AsPath for OfKind<Static> {
     ghost text = { λ s. text_in s.segment.given };
 
-    ghost abides = { λ s. lawful_by_kind s.segment.given Static s.fixed s.segment.lawful };
+    ghost abides = { λ s. lawful_by_kind s.segment.given AStatic s.named s.segment.lawful };
 
     fn as_path(&self) -> &[u8] {
-        self.segment.text()
+        self.text()
     }
 }
 
@@ -117,12 +101,8 @@ impl<T: AsPath> PossibleRouteMatch for StaticSegment<T> {
         }
     }
 
-    fn generate_path(&self, path: &mut [PathSegment], at: usize) -> usize {
-        append_record(
-            path,
-            at,
-            record_of(SegmentKind::Static, self.text.as_path()),
-        )
+    fn generate_path(&self, path: &mut [PathSegment]) -> usize {
+        put_record(path, record_of(SegmentKind::Static, self.text.as_path()))
     }
 
     fn entry_count(&self) -> usize {

@@ -4,4 +4,4 @@ use Rattle.rules.specs.declared.mode.SsrMode.{SsrMode}
 use Rattle.tables.specs.declared.route_record.RouteRecord.{RouteRecord}
 
 abbrev pub with_mode_of : SsrMode → ℕ → RouteRecord → RouteRecord
-with_mode_of m h x = record { id = x.id; depth = x.depth; mode = m; hook = h; count = x.count; entries = x.entries }
+with_mode_of m h x = record { id = x.id; depth = x.depth; rendering = record { mode = m; hook = h }; count = x.count; entries = x.entries }

@@ -9,14 +9,14 @@ use Rattle.tables.specs.declared.stored_line.StoredLine.{StoredLine}
 
 -- one step for each route
 abbrev pub step_of : Route → LineStep
-step_of r = record { id = r.id; mode = r.mode; hook = r.hook }
+step_of r = record { id = r.id; rendering = record { mode = r.mode; hook = r.hook } }
 
 abbrev pub steps_of : List Route → List LineStep
 steps_of [] = []
 steps_of (r ∷ rs) = step_of r ∷ steps_of rs
 
 abbrev pub zero_step : LineStep
-zero_step = record { id = 0; mode = OutOfOrder; hook = 0 }
+zero_step = record { id = 0; rendering = record { mode = OutOfOrder; hook = 0 } }
 
 -- the chain of a line, as it is stored
 abbrev pub stored_of : List Route → StoredLine

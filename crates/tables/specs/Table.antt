@@ -16,7 +16,7 @@ entries_held (s ∷ ss) = entry_in s.given ∷ entries_held ss
 
 -- the route of a record
 abbrev pub route_in : RouteRecord → Route
-route_in x = route_of x.id (entries_held (take x.count x.entries)) x.mode x.hook
+route_in x = route_of x.id (entries_held (take x.count x.entries)) x.rendering.mode x.rendering.hook
 
 -- The routes of depth d up to the first that is less deep, each over what stands below it. A route with nothing below it is
 -- childless.
@@ -54,4 +54,4 @@ distinct (x ∷ xs) = absent x.id xs && distinct xs
 
 -- what is read past a table's end
 abbrev pub blank : RouteRecord
-blank = record { id = 0; depth = 0; mode = OutOfOrder; hook = 0; count = 0; entries = [] }
+blank = record { id = 0; depth = 0; rendering = record { mode = OutOfOrder; hook = 0 }; count = 0; entries = [] }

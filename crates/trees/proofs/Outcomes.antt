@@ -1,21 +1,22 @@
 -- What match_route leaves, at each of its exits.
-use Rattle.std.proofs.Common.{◌≡◌, ℕ, ◌+◌, ◌<◌, Bool, true, false, cond, ◌&&◌, leb, ◌⊎◌, List, length, replicate, Some, None, Ok, Err, Option, Result, sym, refl, ap, ◌∙◌, subst, inl, inr, zero-add, arith}
+use Rattle.std.proofs.Common.{◌≡◌, ℕ, ◌<◌, Bool, true, false, cond, ◌&&◌, leb, ◌⊎◌, List, length, replicate, Some, None, Ok, Err, Option, Result, sym, refl, ap, ◌∙◌, subst, inl, inr, arith}
+use Rattle.std.specs.Option.{ok_or}
 use Rattle.std.proofs.lemmas.Bool.{both_ways, and_parts, leb-true}
 use Rattle.rules.specs.declared.records.LevelRecord.{LevelRecord}
 use Rattle.rules.specs.declared.records.ParamRecord.{ParamRecord}
 use Rattle.rules.specs.declared.refusal.Refusal.{Refusal}
-use Rattle.rules.specs.declared.refusal.Refusal.TheVariants.{LongPath, Unrooted}
+use Rattle.rules.specs.declared.refusal.Refusal.TheVariants.{LongPath, Unrooted, NoRoute}
 use Rattle.rules.specs.Paths.{longest_path, rooted, lawful}
 use Rattle.rules.specs.Forests.{Forest}
 use Rattle.rules.specs.KeptLists.{kept}
 use Rattle.rules.specs.Bounds.{Bounds, reaches}
 use Rattle.rules.specs.Answers.{Answer}
 use Rattle.rules.specs.Admission.{FirstAnswer, NoneSpelled}
-use Rattle.rules.specs.Records.{zero_level, zero_param, padded, overwritten}
-use Rattle.rules.specs.Refusals.{answered, refused, bare}
+use Rattle.rules.specs.Records.{zero_level, zero_param, padded, overlaid}
+use Rattle.rules.specs.Refusals.{answered, refused, bare, told}
 use Rattle.rules.specs.Steps.{first_read, levels_after, params_after, Matched}
 use Rattle.rules.proofs.Admitted.{reader_admits}
-use Rattle.rules.proofs.Buffers.{overwritten_zeros}
+use Rattle.rules.proofs.Overlaid.{overlaid_zeros}
 use Rattle.rules.proofs.MatchMore.{used, unused}
 use Rattle.trees.specs.Paths.{path_fault}
 use Rattle.trees.specs.Routed.{Leaves, Routed}
@@ -59,14 +60,14 @@ module _ (f : Forest) (b : Bounds) (p : List ℕ) (ls : List LevelRecord) (ps : 
 
     module _ (fit : true ≡ reaches b (length ls) (length ps)) (zl : List LevelRecord) (zp : List ParamRecord) (zeros : zl ≡ replicate (length ls) zero_level) (zeros' : zp ≡ replicate (length ps) zero_param) (ls' : List LevelRecord) (ps' : List ParamRecord) where
       -- the answer of the first kept list that is spelled
-      pub route_found : (u : ℕ × ℕ) → Matched (first_read (kept f) 0 0 p) 0 0 (Some u) zl ls' zp ps' → Routed f b p ls ps (answered u) ls' ps'
+      pub route_found : (u : ℕ × ℕ) → Matched (first_read (kept f) 0 0 p) (Some u) zl ls' zp ps' → Routed f b p ls ps (answered u) ls' ps'
       route_found u m =
           let l = fault_lawful p ok in
-          let r = used (first_read (kept f) 0 0 p) 0 0 u m.result in
+          let r = used (first_read (kept f) 0 0 p) u m.result in
           let a = r.0 in
-          let eu : u ≡ (length a.levels, length a.params) = r.2 ∙ ap (λ k. (k, 0 + length a.params)) (zero-add (length a.levels)) ∙ ap (λ k. (length a.levels, k)) (zero-add (length a.params)) in
-          let el : ls' ≡ padded a.levels zero_level (length ls) = m.levels ∙ ap (λ o. levels_after o 0 zl) r.1 ∙ ap (λ z. overwritten z 0 a.levels) zeros ∙ overwritten_zeros (length ls) zero_level a.levels in
-          let ep : ps' ≡ padded a.params zero_param (length ps) = m.params ∙ ap (λ o. params_after o 0 zp) r.1 ∙ ap (λ z. overwritten z 0 a.params) zeros' ∙ overwritten_zeros (length ps) zero_param a.params in
+          let eu : u ≡ (length a.levels, length a.params) = r.2 in
+          let el : ls' ≡ padded a.levels zero_level (length ls) = m.levels ∙ ap (λ o. levels_after o zl) r.1 ∙ ap (λ z. overlaid z a.levels) zeros ∙ overlaid_zeros (length ls) zero_level a.levels in
+          let ep : ps' ≡ padded a.params zero_param (length ps) = m.params ∙ ap (λ o. params_after o zp) r.1 ∙ ap (λ z. overlaid z a.params) zeros' ∙ overlaid_zeros (length ps) zero_param a.params in
           let leaves : Leaves (answered u) ls' ps' (answered (length a.levels, length a.params)) (padded a.levels zero_level (length ls)) (padded a.params zero_param (length ps)) = record { tells = ap answered eu; levels = el; params = ep } in
           record {
             long = λ k. absurd (lawful_long p l k);
@@ -81,15 +82,20 @@ module _ (f : Forest) (b : Bounds) (p : List ℕ) (ls : List LevelRecord) (ps : 
           }
 
       -- no kept list is spelled
-      pub route_none : Matched (first_read (kept f) 0 0 p) 0 0 None zl ls' zp ps' → Routed f b p ls ps (refused (4, bare)) ls' ps'
+      pub route_none : Matched (first_read (kept f) 0 0 p) None zl ls' zp ps' → Routed f b p ls ps (refused (4, bare)) ls' ps'
       route_none m =
           let l = fault_lawful p ok in
-          let n = unused (first_read (kept f) 0 0 p) 0 0 m.result in
+          let n = unused (first_read (kept f) 0 0 p) m.result in
           record {
             long = λ k. absurd (lawful_long p l k);
             unrooted = λ _ k. absurd (lawful_unrooted p l k);
             short = λ _ k. absurd (both_ways (reaches b (length ls) (length ps)) k (sym fit));
             admitted = λ _ _ c h. let z : None ≡ Some c = sym n ∙ ((reader_admits f p l).some c).1 h in let y : ◌≡◌ {A = ℕ} 0 1 = cc in absurd (omega arith);
-            declined = λ _ _ _. record { tells = refl; levels = m.levels ∙ ap (λ o. levels_after o 0 zl) n ∙ zeros; params = m.params ∙ ap (λ o. params_after o 0 zp) n ∙ zeros' };
+            declined = λ _ _ _. record { tells = refl; levels = m.levels ∙ ap (λ o. levels_after o zl) n ∙ zeros; params = m.params ∙ ap (λ o. params_after o zp) n ∙ zeros' };
             decided = decide f p;
           }
+
+      -- what the search answers is told, or that there is nothing
+      pub route_told : (o : Option (ℕ × ℕ)) (r : Result (ℕ × ℕ) Refusal) → r ≡ ok_or o NoRoute → Matched (first_read (kept f) 0 0 p) o zl ls' zp ps' → Routed f b p ls ps (told r) ls' ps'
+      route_told None r e m = rw e (route_none m)
+      route_told (Some u) r e m = rw e (route_found u m)

@@ -3,7 +3,7 @@ use Rattle.std.specs.Prelude.{◌≡◌, ℕ, ◌<◌, ◌≤◌, Bool, true, fa
 use Rattle.rules.specs.declared.segment.PathSegment.{PathSegment}
 use Rattle.rules.specs.declared.records.LineRecord.{LineRecord}
 use Rattle.rules.specs.Forests.{Forest}
-use Rattle.rules.specs.Lines.{Line, no_line, lines}
+use Rattle.rules.specs.Lines.{Line, line_record, no_line, lines}
 use Rattle.rules.specs.KeptLists.{kept, of_line, no_list, entries_of}
 use Rattle.rules.specs.Bounds.{Bounds}
 use Rattle.rules.specs.Records.{records_of, zero_segment, padded}
@@ -12,10 +12,6 @@ use Rattle.rules.specs.Refusals.{Told, answered, refused, bare}
 -- buffers of ids, entries and hooks as long as a tree's bounds ask
 abbrev pub holds_line : Bounds → ℕ → ℕ → ℕ → Bool
 holds_line b ids entries hooks = (nat_le b.levels ids && nat_le b.levels hooks) && nat_le b.entries entries
-
--- how much a line has, and its mode
-abbrev pub line_record : Line → LineRecord
-line_record l = record { ids = length l.ids; entries = length l.entries; hooks = length l.hooks; mode = l.mode }
 
 -- what is told, and what the three buffers hold then
 pub record LineLeft (t : Told LineRecord) (is : List ℕ) (es : List PathSegment) (hs : List ℕ) (t' : Told LineRecord) (is' : List ℕ) (es' : List PathSegment) (hs' : List ℕ) : Type 0 where

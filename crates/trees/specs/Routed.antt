@@ -8,7 +8,7 @@ use Rattle.rules.specs.KeptLists.{kept}
 use Rattle.rules.specs.Bounds.{Bounds, reaches}
 use Rattle.rules.specs.Answers.{Answer}
 use Rattle.rules.specs.Admission.{FirstAnswer, NoneSpelled}
-use Rattle.rules.specs.Records.{zero_level, zero_param, padded, overwritten}
+use Rattle.rules.specs.Records.{zero_level, zero_param, padded, overlaid}
 use Rattle.rules.specs.Refusals.{Told, answered, refused, bare}
 
 -- what is told, and what both buffers hold then
@@ -35,5 +35,5 @@ pub record Routed (f : Forest) (b : Bounds) (p : List ℕ) (ls : List LevelRecor
 pub record Nested (f : Forest) (b : Bounds) (p : List ℕ) (ls : List LevelRecord) (ps : List ParamRecord) (r : Option (ℕ × ℕ)) (ls' : List LevelRecord) (ps' : List ParamRecord) : Type 0 where
   -- an unlawful path, or short buffers
   pub unfit : (lawful p && reaches b (length ls) (length ps)) ≡ false → (r ≡ None) × (ls' ≡ ls) × (ps' ≡ ps)
-  pub admitted : lawful p ≡ true → reaches b (length ls) (length ps) ≡ true → (a : Answer) → FirstAnswer (kept f) p a → (r ≡ Some (length a.levels, length a.params)) × (ls' ≡ overwritten ls 0 a.levels) × (ps' ≡ overwritten ps 0 a.params)
+  pub admitted : lawful p ≡ true → reaches b (length ls) (length ps) ≡ true → (a : Answer) → FirstAnswer (kept f) p a → (r ≡ Some (length a.levels, length a.params)) × (ls' ≡ overlaid ls a.levels) × (ps' ≡ overlaid ps a.params)
   pub declined : lawful p ≡ true → reaches b (length ls) (length ps) ≡ true → NoneSpelled p (kept f) → (r ≡ None) × (ls' ≡ ls) × (ps' ≡ ps)

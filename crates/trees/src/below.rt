@@ -1,5 +1,4 @@
 ghost use Rattle.std.specs.Prelude.{◌≡◌, ◌+◌, ◌^◌, ◌<◌, ◌≤◌, true, List, [], ◌∷◌, length, nat_le, slice_index_or};
-ghost use Rattle.rules.specs.Paths.{lawful};
 ghost use Rattle.rules.specs.Entries.{lawful_entries};
 ghost use Rattle.rules.specs.Forests.{Route, Forest, none, leaf, nest, lawful_forest};
 ghost use Rattle.rules.specs.KeptLists.{KeptList, kept_over, childless, kept, of_line, no_list};
@@ -13,6 +12,7 @@ ghost use Rattle.rules.proofs.Bounded.{enough_leaf, enough_nest};
 ghost use Rattle.rules.proofs.Keepings.{kept_leaf, kept_nest};
 
 use crate::tree::MatchNestedRoutes;
+use entries::rest::Rest;
 use rules::mode::SsrMode;
 use rules::records::{LevelRecord, LineRecord, ParamRecord, RouteId};
 use rules::segment::PathSegment;
@@ -48,18 +48,15 @@ pub trait Below {
     // A step of a route's match: the same as a tree's, for what is left of the path behind the route's own entries.
     fn match_below(
         &self,
-        path: &[u8],
-        at: usize,
+        rest: Rest<'_>,
+        level: usize,
         levels: &mut [LevelRecord],
         params: &mut [ParamRecord],
-        l: usize,
-        p: usize,
     ) -> Option<(usize, usize)>
-        requires rooted { lawful path.now ≡ true }
-        requires placed { at + length path.now < 2 ^ 64 }
-        requires deep { l + (bounds self.now).levels ≤ length levels.old }
-        requires wide { p + (bounds self.now).entries ≤ length params.old }
-        ensures { Matched (first_read (lists self.now) l at path.now) l p result levels.old levels.new params.old params.new };
+        requires numbered { level + (bounds self.now).levels < 2 ^ 64 }
+        requires deep { (bounds self.now).levels ≤ length levels.old }
+        requires wide { (bounds self.now).entries ≤ length params.old }
+        ensures { Matched (first_read (lists self.now) level rest.entry.start rest.entry.bytes.now) result levels.old levels.new params.old params.new };
 
     // How many lines go on below it, or the largest number where there are more.
     fn lines_below(&self) -> u64
@@ -76,24 +73,22 @@ pub trait Below {
         ids: &mut [RouteId],
         entries: &mut [PathSegment],
         hooks: &mut [u16],
-        i: usize,
-        e: usize,
-        h: usize,
     ) -> LineRecord
         requires there { n < length (rests self.now) }
-        requires deep { i + (bounds self.now).levels ≤ length ids.old }
-        requires wide { e + (bounds self.now).entries ≤ length entries.old }
-        requires hooked { h + (bounds self.now).levels ≤ length hooks.old }
-        ensures { GivenOut (slice_index_or (rests self.now) n no_line) i e h result ids.old ids.new entries.old entries.new hooks.old hooks.new };
+        requires deep { (bounds self.now).levels ≤ length ids.old }
+        requires wide { (bounds self.now).entries ≤ length entries.old }
+        requires hooked { (bounds self.now).levels ≤ length hooks.old }
+        ensures { GivenOut (slice_index_or (rests self.now) n no_line) result ids.old ids.new entries.old entries.new hooks.old hooks.new };
 
     // The rest of a kept list by the numbers of its line and its own, as for a tree.
-    fn kept_below(&self, line: u32, n: u32, entries: &mut [PathSegment], e: usize) -> usize
+    fn kept_below(&self, line: u32, n: u32, entries: &mut [PathSegment]) -> usize
         requires there { n < length (of_line line (lists self.now)) }
-        requires wide { e + (bounds self.now).entries ≤ length entries.old }
-        ensures { KeptOut (slice_index_or (of_line line (lists self.now)) n no_list).routes e result entries.old entries.new };
+        requires wide { (bounds self.now).entries ≤ length entries.old }
+        ensures { KeptOut (slice_index_or (of_line line (lists self.now)) n no_list).routes result entries.old entries.new };
 }
 
 // A tree of routes below a route: the remainder of the path is handed on to it.
+// One impl hands on for all trees; a tree that had these steps itself would state the eight members above once more.
 impl<T: MatchNestedRoutes> Below for T {
     ghost lists = { λ s. kept (T.MatchNestedRoutes.routes s) };
 
@@ -121,14 +116,12 @@ impl<T: MatchNestedRoutes> Below for T {
 
     fn match_below(
         &self,
-        path: &[u8],
-        at: usize,
+        rest: Rest<'_>,
+        level: usize,
         levels: &mut [LevelRecord],
         params: &mut [ParamRecord],
-        l: usize,
-        p: usize,
     ) -> Option<(usize, usize)> {
-        self.match_at(path, at, levels, params, l, p)
+        self.match_at(rest, level, levels, params)
     }
 
     fn lines_below(&self) -> u64 {
@@ -145,15 +138,12 @@ impl<T: MatchNestedRoutes> Below for T {
         ids: &mut [RouteId],
         entries: &mut [PathSegment],
         hooks: &mut [u16],
-        i: usize,
-        e: usize,
-        h: usize,
     ) -> LineRecord {
-        self.line_at(n, ids, entries, hooks, i, e, h)
+        self.line_at(n, ids, entries, hooks)
     }
 
-    fn kept_below(&self, line: u32, n: u32, entries: &mut [PathSegment], e: usize) -> usize {
-        self.kept_at(line, n, entries, e)
+    fn kept_below(&self, line: u32, n: u32, entries: &mut [PathSegment]) -> usize {
+        self.kept_at(line, n, entries)
     }
 }
 
@@ -188,16 +178,13 @@ impl Below for Childless {
 
     fn match_below(
         &self,
-        path: &[u8],
-        _at: usize,
+        rest: Rest<'_>,
+        _level: usize,
         _levels: &mut [LevelRecord],
         _params: &mut [ParamRecord],
-        l: usize,
-        p: usize,
     ) -> Option<(usize, usize)> {
-        match path {
-            [] => Some((l, p)),
-            [b'/'] => Some((l, p)),
+        match rest.bytes() {
+            [] | [b'/'] => Some((0, 0)),
             _ => None,
         }
     }
@@ -207,7 +194,7 @@ impl Below for Childless {
     }
 
     fn kept_lists_below(&self, line: u32) -> u64 {
-        if line == 0 { 1 } else { 0 }
+        u64::from(line == 0)
     }
 
     fn line_below(
@@ -216,19 +203,16 @@ impl Below for Childless {
         _ids: &mut [RouteId],
         _entries: &mut [PathSegment],
         _hooks: &mut [u16],
-        i: usize,
-        e: usize,
-        h: usize,
     ) -> LineRecord {
         LineRecord {
-            ids: i,
-            entries: e,
-            hooks: h,
+            ids: 0,
+            entries: 0,
+            hooks: 0,
             mode: SsrMode::OutOfOrder,
         }
     }
 
-    fn kept_below(&self, _line: u32, _n: u32, _entries: &mut [PathSegment], e: usize) -> usize {
-        e
+    fn kept_below(&self, _line: u32, _n: u32, _entries: &mut [PathSegment]) -> usize {
+        0
     }
 }

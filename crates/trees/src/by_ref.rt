@@ -1,8 +1,10 @@
 use crate::tree::MatchNestedRoutes;
+use entries::rest::Rest;
 use rules::records::{LevelRecord, LineRecord, ParamRecord, RouteId};
 use rules::segment::PathSegment;
 
 // A tree behind a reference is that tree: so a pair of references is a pair.
+// The steps are handed on one by one: an impl for a reference has none of its own type's.
 impl<'a, T: MatchNestedRoutes> MatchNestedRoutes for &'a T {
     ghost routes = { λ s. T.MatchNestedRoutes.routes s.now };
 
@@ -22,14 +24,12 @@ impl<'a, T: MatchNestedRoutes> MatchNestedRoutes for &'a T {
 
     fn match_at(
         &self,
-        path: &[u8],
-        at: usize,
+        rest: Rest<'_>,
+        level: usize,
         levels: &mut [LevelRecord],
         params: &mut [ParamRecord],
-        l: usize,
-        p: usize,
     ) -> Option<(usize, usize)> {
-        (**self).match_at(path, at, levels, params, l, p)
+        (**self).match_at(rest, level, levels, params)
     }
 
     fn line_count(&self) -> u64 {
@@ -46,14 +46,11 @@ impl<'a, T: MatchNestedRoutes> MatchNestedRoutes for &'a T {
         ids: &mut [RouteId],
         entries: &mut [PathSegment],
         hooks: &mut [u16],
-        i: usize,
-        e: usize,
-        h: usize,
     ) -> LineRecord {
-        (**self).line_at(n, ids, entries, hooks, i, e, h)
+        (**self).line_at(n, ids, entries, hooks)
     }
 
-    fn kept_at(&self, line: u32, n: u32, entries: &mut [PathSegment], e: usize) -> usize {
-        (**self).kept_at(line, n, entries, e)
+    fn kept_at(&self, line: u32, n: u32, entries: &mut [PathSegment]) -> usize {
+        (**self).kept_at(line, n, entries)
     }
 }

@@ -1,5 +1,4 @@
 ghost use Rattle.std.specs.Prelude.{◌≡◌, ◌+◌, ◌^◌, ◌<◌, ◌≤◌, true, length, nat_le, slice_index_or};
-ghost use Rattle.rules.specs.Paths.{lawful};
 ghost use Rattle.rules.specs.Forests.{Forest, lawful_forest};
 ghost use Rattle.rules.specs.KeptLists.{kept, of_line, no_list};
 ghost use Rattle.rules.specs.Bounds.{Bounds, Enough, reaches};
@@ -10,7 +9,7 @@ ghost use Rattle.trees.specs.Routed.{Nested};
 ghost use Rattle.trees.specs.Lined.{Lined, KeptGiven};
 ghost use Rattle.rules.specs.Steps.{first_read, Matched, GivenOut, KeptOut};
 
-use entries::path::is_lawful;
+use entries::rest::Rest;
 use rules::records::{LevelRecord, LineRecord, ParamRecord, RouteId};
 use rules::refusal::Refusal;
 use rules::segment::PathSegment;
@@ -28,6 +27,7 @@ pub trait MatchNestedRoutes {
     ghost abides: { (s : Self) → lawful_forest (routes s) ≡ true };
 
     // Whether it may answer with at most so many levels.
+    // Two questions, since refusal 7 asks for levels alone, and a kept list for entries alone.
     fn fits_levels(&self, levels: usize) -> bool
         ensures { result ≡ nat_le (bounds self.now).levels levels };
 
@@ -44,6 +44,7 @@ pub trait MatchNestedRoutes {
 
     // The answer of the first kept list that `path` spells, from the start of both buffers, and how many records it has; or none.
     // It changes nothing where the path is not lawful, the buffers are too short, or no kept list is spelled.
+    // The buffers are lent side by side: a struct of `&mut` slices would be made anew, by reborrows, at each attempt and step.
     fn match_nested(
         &self,
         path: &[u8],
@@ -52,15 +53,17 @@ pub trait MatchNestedRoutes {
     ) -> Option<(usize, usize)>
         ensures { Nested (routes self.now) (bounds self.now) path.now levels.old params.old result levels.new params.new }
     {
-        if is_lawful(path) && self.fits(levels.len(), params.len()) {
-            self.match_at(path, 0, levels, params, 0, 0)
+        let rest = Rest::whole(path)?;
+        if self.fits(levels.len(), params.len()) {
+            self.match_at(rest, 0, levels, params)
         } else {
             None
         }
     }
 
     // A line by its number: its ids, entries and hooks from the start of the buffers, zero records behind them, how many there are,
-    // and its mode. Refusal 3 where a buffer is too short, and 13 where there is no such line.
+    // and its mode. Refusal 3 where a buffer is too short, and 13 where there is no such line. Three buffers are lent side by side, as
+    // two are for a match.
     fn generate_routes(
         &self,
         n: u32,
@@ -82,12 +85,12 @@ pub trait MatchNestedRoutes {
         ids.fill(0);
         entries.fill(PathSegment::ZERO);
         hooks.fill(0);
-        Ok(self.line_at(n, ids, entries, hooks, 0, 0, 0))
+        Ok(self.line_at(n, ids, entries, hooks))
     }
 
     // A line's kept list by the numbers of the line and its own: its entries from the start of the buffer, zero records behind them,
     // and how many there are. Refusal 3 where the buffer is too short, 13 where there is no such line, and 15 where it has no such
-    // kept list.
+    // kept list. The two numbers stay two arguments, here and in the steps: a struct of them would have no method.
     fn generate_kept(
         &self,
         line: u32,
@@ -106,25 +109,23 @@ pub trait MatchNestedRoutes {
             return Err(Refusal::NoVariant);
         }
         entries.fill(PathSegment::ZERO);
-        Ok(self.kept_at(line, n, entries, 0))
+        Ok(self.kept_at(line, n, entries))
     }
 
-    // A step of `match_route`: finds the first kept list that `path`, which starts at `at`, spells, writes its records from
-    // `levels[l]` and `params[p]` on, and answers how many records are in use then. Where there is none, it changes nothing.
+    // A step of `match_route`, with the tree's roots on the level of a number: finds the first kept list that the rest of a path
+    // spells, writes its records over the front of both buffers, and answers how many there are. Where there is none, it changes
+    // nothing.
     fn match_at(
         &self,
-        path: &[u8],
-        at: usize,
+        rest: Rest<'_>,
+        level: usize,
         levels: &mut [LevelRecord],
         params: &mut [ParamRecord],
-        l: usize,
-        p: usize,
     ) -> Option<(usize, usize)>
-        requires rooted { lawful path.now ≡ true }
-        requires placed { at + length path.now < 2 ^ 64 }
-        requires deep { l + (bounds self.now).levels ≤ length levels.old }
-        requires wide { p + (bounds self.now).entries ≤ length params.old }
-        ensures { Matched (first_read (kept (routes self.now)) l at path.now) l p result levels.old levels.new params.old params.new };
+        requires numbered { level + (bounds self.now).levels < 2 ^ 64 }
+        requires deep { (bounds self.now).levels ≤ length levels.old }
+        requires wide { (bounds self.now).entries ≤ length params.old }
+        ensures { Matched (first_read (kept (routes self.now)) level rest.entry.start rest.entry.bytes.now) result levels.old levels.new params.old params.new };
 
     // How many lines there are, or the largest number where there are more.
     fn line_count(&self) -> u64
@@ -134,28 +135,25 @@ pub trait MatchNestedRoutes {
     fn kept_count(&self, line: u32) -> u64
         ensures { result ≡ capped (length (of_line line (kept (routes self.now)))) };
 
-    // A step of `generate_routes`: writes a line by its number from `ids[i]`, `entries[e]` and `hooks[h]` on, and answers where it
-    // ends, with its mode.
+    // A step of `generate_routes`: writes a line by its number over the front of the buffers, and answers how much it has, with its
+    // mode.
     fn line_at(
         &self,
         n: u32,
         ids: &mut [RouteId],
         entries: &mut [PathSegment],
         hooks: &mut [u16],
-        i: usize,
-        e: usize,
-        h: usize,
     ) -> LineRecord
         requires there { n < length (lines (routes self.now)) }
-        requires deep { i + (bounds self.now).levels ≤ length ids.old }
-        requires wide { e + (bounds self.now).entries ≤ length entries.old }
-        requires hooked { h + (bounds self.now).levels ≤ length hooks.old }
-        ensures { GivenOut (slice_index_or (lines (routes self.now)) n no_line) i e h result ids.old ids.new entries.old entries.new hooks.old hooks.new };
+        requires deep { (bounds self.now).levels ≤ length ids.old }
+        requires wide { (bounds self.now).entries ≤ length entries.old }
+        requires hooked { (bounds self.now).levels ≤ length hooks.old }
+        ensures { GivenOut (slice_index_or (lines (routes self.now)) n no_line) result ids.old ids.new entries.old entries.new hooks.old hooks.new };
 
-    // A step of `generate_kept`: writes the entries of a line's kept list by its number from `entries[e]` on, and answers where
-    // they end.
-    fn kept_at(&self, line: u32, n: u32, entries: &mut [PathSegment], e: usize) -> usize
+    // A step of `generate_kept`: writes the entries of a line's kept list by its number over the front of the buffer, and answers
+    // how many they are.
+    fn kept_at(&self, line: u32, n: u32, entries: &mut [PathSegment]) -> usize
         requires there { n < length (of_line line (kept (routes self.now))) }
-        requires wide { e + (bounds self.now).entries ≤ length entries.old }
-        ensures { KeptOut (slice_index_or (of_line line (kept (routes self.now))) n no_list).routes e result entries.old entries.new };
+        requires wide { (bounds self.now).entries ≤ length entries.old }
+        ensures { KeptOut (slice_index_or (of_line line (kept (routes self.now))) n no_list).routes result entries.old entries.new };
 }

@@ -8,7 +8,7 @@ use Rattle.rules.specs.Paths.{slash, longest_path}
 use Rattle.rules.specs.Entries.{Entry}
 use Rattle.rules.specs.Keeping.{optionals}
 use Rattle.rules.specs.Places.{list_limit, list_fault, entries_in}
-use Rattle.rules.specs.Records.{records_of, zero_segment, padded, overwritten}
+use Rattle.rules.specs.Records.{records_of, zero_segment, padded, overlaid}
 use Rattle.rules.specs.Refusals.{Told, answered, refused, bare, entry}
 use Rattle.rules.specs.Values.{value_fault, path_choices, path_of}
 use Rattle.rules.specs.Variants.{variant_of}
@@ -58,7 +58,7 @@ path_told text ps vt rs n room = and_number (paths_told text ps vt rs) n (fit_to
 
 -- what is answered is written from the buffer's start on; the rest of it, and all of it after a refusal, is as it was
 abbrev pub left_by : {A : Type 0} → Told ℕ → List A → List A → List A
-left_by (answered n) xs out = overwritten out 0 xs
+left_by (answered n) xs out = overlaid out xs
 left_by (refused e) xs out = out
 
 -- THE VARIANT OF A NUMBER, into a buffer of so many records: 3, 9, 14, 15.

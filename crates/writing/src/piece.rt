@@ -1,10 +1,10 @@
-ghost use Rattle.std.specs.Prelude.{◌≡◌, ◌+◌, ◌^◌, ◌<◌, ◌≤◌, length, nat_le};
+ghost use Rattle.std.specs.Prelude.{◌≡◌, length};
 ghost use Rattle.rules.specs.Places.{entry_of};
-ghost use Rattle.rules.specs.Records.{overwritten};
 ghost use Rattle.rules.specs.Writing.{with_slash, bytes_of, ends_slash};
 ghost use Rattle.rules.specs.Entries.{static};
 ghost use Rattle.writing.specs.Told.{piece_bytes};
 
+use crate::entry::Entry;
 use rules::segment::SegmentKind;
 
 // What one entry writes: a slash or none, and a text.
@@ -14,80 +14,56 @@ pub(crate) struct Piece<'a> {
     pub body: &'a [u8],
 }
 
-// A text with a slash in front, unless it begins with one.
-fn with_slash(text: &[u8]) -> Piece<'_>
-    ensures { piece_bytes result.slash result.body.now ≡ with_slash text.now }
-{
-    match text {
-        [b'/', ..] => Piece {
-            slash: false,
-            body: text,
-        },
-        _ => Piece {
-            slash: true,
-            body: text,
-        },
-    }
-}
+impl<'a> Piece<'a> {
+    const NOTHING: Piece<'static> = Piece {
+        slash: false,
+        body: b"",
+    };
 
-// What a static writes; a bare slash only where it is due.
-fn static_piece(text: &[u8], due: bool) -> Piece<'_>
-    ensures { piece_bytes result.slash result.body.now ≡ bytes_of (static text.now) text.now due }
-{
-    match text {
-        [] => Piece {
-            slash: false,
-            body: text,
-        },
-        [b'/'] => Piece {
-            slash: due,
-            body: b"",
-        },
-        _ => with_slash(text),
-    }
-}
-
-// What an entry writes with its value.
-pub(crate) fn piece_of<'a>(
-    kind: SegmentKind,
-    text: &'a [u8],
-    value: &'a [u8],
-    due: bool,
-) -> Piece<'a>
-    ensures { piece_bytes result.slash result.body.now ≡ bytes_of (entry_of kind text.now) value.now due }
-{
-    match kind {
-        SegmentKind::Unit | SegmentKind::OptionalParam => Piece {
-            slash: false,
-            body: b"",
-        },
-        SegmentKind::Static => static_piece(text, due),
-        SegmentKind::Param | SegmentKind::Splat => with_slash(value),
-    }
-}
-
-// Writes some bytes over a buffer from `at` on.
-fn put_bytes(out: &mut [u8], at: usize, bytes: &[u8])
-    requires { at + length bytes.now ≤ length out.old }
-    ensures { out.new ≡ overwritten out.old at bytes.now }
-{
-    let end = at + bytes.len();
-    out[at..end].copy_from_slice(bytes);
-}
-
-impl Piece<'_> {
-    // Whether it has at most so many bytes.
-    pub(crate) fn fits(self, room: usize) -> bool
-        ensures { result ≡ nat_le (length (piece_bytes self.entry.slash self.entry.body.now)) room }
+    // A text with a slash in front, unless it begins with one.
+    fn with_slash(text: &'a [u8]) -> Piece<'a>
+        ensures { piece_bytes result.slash result.body.now ≡ with_slash text.now }
     {
-        if self.slash {
-            self.body.len() < room
-        } else {
-            self.body.len() <= room
+        Piece {
+            slash: !matches!(text, [b'/', ..]),
+            body: text,
         }
     }
 
+    // What a static writes; a bare slash only where it is due.
+    fn of_static(text: &'a [u8], due: bool) -> Piece<'a>
+        ensures { piece_bytes result.slash result.body.now ≡ bytes_of (static text.now) text.now due }
+    {
+        match text {
+            [] => Piece::NOTHING,
+            [b'/'] => Piece {
+                slash: due,
+                body: b"",
+            },
+            _ => Piece::with_slash(text),
+        }
+    }
+
+    // What an entry writes with its value.
+    pub(crate) fn of(one: Entry<'a>, value: &'a [u8], due: bool) -> Piece<'a>
+        ensures { piece_bytes result.slash result.body.now ≡ bytes_of (entry_of one.entry.kind one.entry.text.now) value.now due }
+    {
+        match one.kind {
+            SegmentKind::Unit | SegmentKind::OptionalParam => Piece::NOTHING,
+            SegmentKind::Static => Piece::of_static(one.text, due),
+            SegmentKind::Param | SegmentKind::Splat => Piece::with_slash(value),
+        }
+    }
+
+    // How many bytes it has.
+    pub(crate) fn len(self) -> usize
+        ensures { result ≡ length (piece_bytes self.entry.slash self.entry.body.now) }
+    {
+        usize::from(self.slash) + self.body.len()
+    }
+
     // Whether a path ends with a slash behind it, where it does or does not before it.
+    #[tactic(auto, using(crate::proofs::Parts::ends_body))]
     pub(crate) fn ends_slash(self, ended: bool) -> bool
         ensures { result ≡ ends_slash ended (piece_bytes self.entry.slash self.entry.body.now) }
     {
@@ -97,25 +73,17 @@ impl Piece<'_> {
         }
     }
 
-    // Where it ends, if it starts at `at`.
-    pub(crate) fn end_from(self, at: usize) -> usize
-        requires { at + length (piece_bytes self.slash self.body.now) < 2 ^ 64 }
-        ensures { result ≡ at + length (piece_bytes self.entry.slash self.entry.body.now) }
-    {
-        let end = at + self.body.len();
-        if self.slash { end + 1 } else { end }
-    }
-
-    // Writes it over a buffer from `at` on.
-    pub(crate) fn put(self, out: &mut [u8], at: usize)
-        requires { at + length (piece_bytes self.slash self.body.now) ≤ length out.old }
-        ensures { out.new ≡ overwritten out.old at (piece_bytes self.entry.slash self.entry.body.now) }
+    // Writes it over a buffer that is as long.
+    #[tactic(auto, using(crate::proofs::Parts::put_slash))]
+    pub(crate) fn put(self, out: &mut [u8])
+        requires { length out.old ≡ length (piece_bytes self.slash self.body.now) }
+        ensures { out.new ≡ piece_bytes self.entry.slash self.entry.body.now }
     {
         if self.slash {
-            out[at] = b'/';
-            put_bytes(out, at + 1, self.body);
+            out[0] = b'/';
+            out[1..].copy_from_slice(self.body);
         } else {
-            put_bytes(out, at, self.body);
+            out.copy_from_slice(self.body);
         }
     }
 }

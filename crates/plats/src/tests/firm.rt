@@ -45,6 +45,14 @@ pub fn clients() -> Result<Clients, Refusal> {
         .child(parcel)
 }
 
+// The clients, and then the jobs.
+pub fn clients_and_jobs() -> Result<Pair<Clients, Jobs>, Refusal> {
+    Ok(Pair {
+        first: clients()?,
+        second: jobs()?,
+    })
+}
+
 // 5 `job :year? :sheet?`
 pub fn jobs() -> Result<Jobs, Refusal> {
     let year = OptionalParamSegment::new(b"year")?;

@@ -1,13 +1,25 @@
 // Lists that are handed over as kinds and places in a text.
-use entries::check::{LIST_LIMIT, ROUTE_LIMIT, check_list};
+use entries::check::{LIST_LIMIT, ROUTE_LIMIT};
+use entries::list::EntryList;
 use rules::refusal::{Cause, EntryFault};
 use rules::segment::{EntryPlace, SegmentKind};
+use rules::values::TextPlace;
 
 // 26 bytes with a slash at 2
 const TEXT: &[u8] = b"ab/defghijklmnopqrstuvwxyz";
 
 fn place(kind: SegmentKind, start: usize, len: usize) -> EntryPlace {
-    EntryPlace { kind, start, len }
+    EntryPlace {
+        kind,
+        place: TextPlace { start, len },
+    }
+}
+
+fn in_text(entries: &[EntryPlace]) -> EntryList<'_> {
+    EntryList {
+        entries,
+        text: TEXT,
+    }
 }
 
 fn fault(number: usize, cause: Cause) -> Result<(), EntryFault> {
@@ -19,17 +31,14 @@ fn fault(number: usize, cause: Cause) -> Result<(), EntryFault> {
 fn counts(rt: HostRuntime) {
     let good = [place(SegmentKind::Param, 0, 2); 97];
     let bad = [place(SegmentKind::Param, 99, 2); 7];
-    assert_eq!(rt; check_list(ROUTE_LIMIT, &good[0..6], TEXT), Ok(()));
+    assert_eq!(rt; in_text(&good[0..6]).check(ROUTE_LIMIT), Ok(()));
     assert_eq!(rt;
-        check_list(ROUTE_LIMIT, &good[0..7], TEXT),
+        in_text(&good[0..7]).check(ROUTE_LIMIT),
         fault(6, Cause::Count)
     );
-    assert_eq!(rt; check_list(ROUTE_LIMIT, &bad, TEXT), fault(6, Cause::Count));
-    assert_eq!(rt; check_list(LIST_LIMIT, &good[0..96], TEXT), Ok(()));
-    assert_eq!(rt;
-        check_list(LIST_LIMIT, &good, TEXT),
-        fault(96, Cause::Count)
-    );
+    assert_eq!(rt; in_text(&bad).check(ROUTE_LIMIT), fault(6, Cause::Count));
+    assert_eq!(rt; in_text(&good[0..96]).check(LIST_LIMIT), Ok(()));
+    assert_eq!(rt; in_text(&good).check(LIST_LIMIT), fault(96, Cause::Count));
 }
 
 // One entry behind a good one: the place is tested first, then the length, then the slash.
@@ -64,7 +73,7 @@ fn places(rt: HostRuntime) {
     ];
     let good = place(SegmentKind::Param, 0, 2);
     for (entry, answer) in cases {
-        assert_eq!(rt; check_list(ROUTE_LIMIT, &[good, entry], TEXT), answer);
+        assert_eq!(rt; in_text(&[good, entry]).check(ROUTE_LIMIT), answer);
     }
 }
 
@@ -75,13 +84,27 @@ fn first_fault(rt: HostRuntime) {
     let slashed = place(SegmentKind::Static, 0, 4);
     let outside = place(SegmentKind::Param, 26, 1);
     assert_eq!(rt;
-        check_list(6, &[unit, slashed, outside], TEXT),
+        in_text(&[unit, slashed, outside]).check(6),
         fault(1, Cause::Slash)
     );
     assert_eq!(rt;
-        check_list(6, &[unit, unit, outside, slashed], TEXT),
+        in_text(&[unit, unit, outside, slashed]).check(6),
         fault(2, Cause::Place)
     );
-    assert_eq!(rt; check_list(0, &[], b""), Ok(()));
-    assert_eq!(rt; check_list(0, &[unit], b""), fault(0, Cause::Count));
+    assert_eq!(rt;
+        EntryList {
+            entries: &[],
+            text: b""
+        }
+        .check(0),
+        Ok(())
+    );
+    assert_eq!(rt;
+        EntryList {
+            entries: &[unit],
+            text: b""
+        }
+        .check(0),
+        fault(0, Cause::Count)
+    );
 }

@@ -1,47 +1,35 @@
 // Kept lists by the numbers of their lines and their own.
-use crate::tests::firm::{clients, jobs};
+use crate::tests::firm::{clients_and_jobs, jobs};
+use crate::tests::given::{Given, old_entry};
 use entries::record::record_of;
 use lists::kind_list::KindList;
-use rows::pair::Pair;
 use rules::refusal::Refusal;
 use rules::segment::{PathSegment, SegmentKind};
+use std::array::from_fn;
 use std::test::Fail;
 use trees::tree::MatchNestedRoutes;
 
-// What a call tells, and what it leaves in its buffer.
-#[derive(Clone, Copy, PartialEq, Eq, Debug)]
-struct Given {
-    told: Result<usize, Refusal>,
-    entries: [PathSegment; 4],
-}
-
-fn old_entry() -> PathSegment {
-    record_of(SegmentKind::Splat, b"old")
-}
+type GivenKept = Given<usize, [PathSegment; 4]>;
 
 // A call that is lent the first so many records of a buffer of 4.
-fn kept_in<T: MatchNestedRoutes>(tree: &T, line: u32, n: u32, count: usize) -> Given {
-    let mut entries = [old_entry(); 4];
-    let told = tree.generate_kept(line, n, &mut entries[0..count.min(4)]);
-    Given { told, entries }
+fn kept_in<T: MatchNestedRoutes>(tree: &T, line: u32, n: u32, count: usize) -> GivenKept {
+    let mut left = [old_entry(); 4];
+    let told = tree.generate_kept(line, n, &mut left[0..count.min(4)]);
+    Given { told, left }
 }
 
-fn refused(refusal: Refusal) -> Given {
+fn refused(refusal: Refusal) -> GivenKept {
     Given {
         told: Err(refusal),
-        entries: [old_entry(); 4],
+        left: [old_entry(); 4],
     }
 }
 
 // Some kept entries, and zero records behind them.
-fn kept(segments: &[PathSegment]) -> Given {
-    let mut entries = [PathSegment::ZERO; 4];
-    for (entry, segment) in entries.iter_mut().zip(segments.iter()) {
-        *entry = *segment;
-    }
+fn kept(segments: &[PathSegment]) -> GivenKept {
     Given {
         told: Ok(segments.len()),
-        entries,
+        left: from_fn(|i| segments.get(i).copied().unwrap_or(PathSegment::ZERO)),
     }
 }
 
@@ -56,10 +44,7 @@ fn kept_lists_have_numbers(rt: HostRuntime) -> Result<(), Fail> {
     let plan = record_of(SegmentKind::Static, b"plan");
     let lot = record_of(SegmentKind::Param, b"lot");
     let none = refused(Refusal::NoVariant);
-    let tree = Pair {
-        first: clients()?,
-        second: jobs()?,
-    };
+    let tree = clients_and_jobs()?;
     let cases = [
         (0, 0, kept(&[client, parcel, plan])),
         (0, 1, kept(&[parcel, plan])),
@@ -81,10 +66,7 @@ fn kept_lists_have_numbers(rt: HostRuntime) -> Result<(), Fail> {
 
 #[test]
 fn kept_lists_are_counted(rt: HostRuntime) -> Result<(), Fail> {
-    let tree = Pair {
-        first: clients()?,
-        second: jobs()?,
-    };
+    let tree = clients_and_jobs()?;
     for (line, count) in [(0, 2), (1, 2), (2, 3), (3, 0)] {
         assert_eq!(rt; tree.kept_count(line), count);
     }
@@ -97,7 +79,7 @@ fn kept_lists_are_refused(rt: HostRuntime) -> Result<(), Fail> {
     let tree = jobs()?;
     let job = record_of(SegmentKind::Static, b"job");
     let mut only_job = kept(&[job]);
-    only_job.entries[3] = old_entry();
+    only_job.left[3] = old_entry();
     assert_eq!(rt; kept_in(&tree, 0, 2, 3), only_job);
     assert_eq!(rt; kept_in(&tree, 0, 2, 2), refused(Refusal::ShortOut));
     assert_eq!(rt; kept_in(&tree, 1, 3, 2), refused(Refusal::ShortOut));

@@ -1,5 +1,6 @@
 // Lines by their numbers.
 use crate::tests::firm::{clients, jobs, word};
+use crate::tests::given::{Given, old_entry};
 use entries::record::record_of;
 use rows::pair::Pair;
 use rows::row::Row;
@@ -10,50 +11,46 @@ use rules::segment::{PathSegment, SegmentKind};
 use std::test::Fail;
 use trees::tree::MatchNestedRoutes;
 
-// What a call tells, and what it leaves in its buffers.
+// The buffers of a line.
 #[derive(Clone, Copy, PartialEq, Eq, Debug)]
-struct Given {
-    told: Result<LineRecord, Refusal>,
+struct Buffers {
     ids: [RouteId; 4],
     entries: [PathSegment; 4],
     hooks: [u16; 4],
 }
 
-// An entry that stands in a buffer before a call.
-fn old_entry() -> PathSegment {
-    record_of(SegmentKind::Splat, b"old")
-}
+type GivenLine = Given<LineRecord, Buffers>;
 
-// A call that is lent the first so many records of buffers of 4.
-fn line_in<T: MatchNestedRoutes>(tree: &T, n: u32, i: usize, e: usize, h: usize) -> Given {
-    let mut ids = [77; 4];
-    let mut entries = [old_entry(); 4];
-    let mut hooks = [77; 4];
-    let told = tree.generate_routes(
-        n,
-        &mut ids[0..i.min(4)],
-        &mut entries[0..e.min(4)],
-        &mut hooks[0..h.min(4)],
-    );
-    Given {
-        told,
-        ids,
-        entries,
-        hooks,
-    }
-}
-
-fn refused(refusal: Refusal) -> Given {
-    Given {
-        told: Err(refusal),
+// What the buffers hold before a call.
+fn old_buffers() -> Buffers {
+    Buffers {
         ids: [77; 4],
         entries: [old_entry(); 4],
         hooks: [77; 4],
     }
 }
 
+// A call that is lent the first so many records of each buffer.
+fn line_in<T: MatchNestedRoutes>(tree: &T, n: u32, i: usize, e: usize, h: usize) -> GivenLine {
+    let mut left = old_buffers();
+    let told = tree.generate_routes(
+        n,
+        &mut left.ids[0..i.min(4)],
+        &mut left.entries[0..e.min(4)],
+        &mut left.hooks[0..h.min(4)],
+    );
+    Given { told, left }
+}
+
+fn refused(refusal: Refusal) -> GivenLine {
+    Given {
+        told: Err(refusal),
+        left: old_buffers(),
+    }
+}
+
 // A line of 3 routes and 3 entries.
-fn third_level(last: RouteId, entry: PathSegment, hooks: usize, second_hook: u16) -> Given {
+fn third_level(last: RouteId, entry: PathSegment, hooks: usize, second_hook: u16) -> GivenLine {
     Given {
         told: Ok(LineRecord {
             ids: 3,
@@ -61,14 +58,16 @@ fn third_level(last: RouteId, entry: PathSegment, hooks: usize, second_hook: u16
             hooks,
             mode: SsrMode::Static,
         }),
-        ids: [1, 2, last, 0],
-        entries: [
-            record_of(SegmentKind::OptionalParam, b"client"),
-            record_of(SegmentKind::Static, b"parcel"),
-            entry,
-            PathSegment::ZERO,
-        ],
-        hooks: [10, second_hook, 0, 0],
+        left: Buffers {
+            ids: [1, 2, last, 0],
+            entries: [
+                record_of(SegmentKind::OptionalParam, b"client"),
+                record_of(SegmentKind::Static, b"parcel"),
+                entry,
+                PathSegment::ZERO,
+            ],
+            hooks: [10, second_hook, 0, 0],
+        },
     }
 }
 
@@ -100,14 +99,16 @@ fn line_of_one_route(rt: HostRuntime) -> Result<(), Fail> {
                 hooks: 0,
                 mode: SsrMode::OutOfOrder,
             }),
-            ids: [5, 0, 77, 77],
-            entries: [
-                record_of(SegmentKind::Static, b"job"),
-                record_of(SegmentKind::OptionalParam, b"year"),
-                record_of(SegmentKind::OptionalParam, b"sheet"),
-                old_entry(),
-            ],
-            hooks: [0, 77, 77, 77],
+            left: Buffers {
+                ids: [5, 0, 77, 77],
+                entries: [
+                    record_of(SegmentKind::Static, b"job"),
+                    record_of(SegmentKind::OptionalParam, b"year"),
+                    record_of(SegmentKind::OptionalParam, b"sheet"),
+                    old_entry(),
+                ],
+                hooks: [0, 77, 77, 77],
+            },
         }
     );
     Ok(())
@@ -159,8 +160,8 @@ fn lines_of_rows(rt: HostRuntime) -> Result<(), Fail> {
     let items = [word(1, b"hill")?, word(2, b"dale")?, word(3, b"plan")?];
     let row = Row { items: &items };
     assert_eq!(rt; row.line_count(), 3);
-    assert_eq!(rt; line_in(&row, 1, 4, 4, 4).ids, [2, 0, 0, 0]);
-    assert_eq!(rt; line_in(&row, 2, 4, 4, 4).ids, [3, 0, 0, 0]);
+    assert_eq!(rt; line_in(&row, 1, 4, 4, 4).left.ids, [2, 0, 0, 0]);
+    assert_eq!(rt; line_in(&row, 2, 4, 4, 4).left.ids, [3, 0, 0, 0]);
     let over_none = word(1, b"hill")?.child(Row {
         items: &items[0..0],
     })?;

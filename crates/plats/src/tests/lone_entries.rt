@@ -11,10 +11,7 @@ const LETTERS: &[u8] = b"abcdefghijklmnopqrstuvwxy";
 
 // The refusal of an entry that is handed over alone, if there is a cause.
 fn alone(cause: Option<Cause>) -> Option<Refusal> {
-    match cause {
-        Some(cause) => Some(Refusal::BadEntry(EntryFault { number: 0, cause })),
-        None => None,
-    }
+    cause.map(|cause| Refusal::BadEntry(EntryFault { number: 0, cause }))
 }
 
 // A name has 1 to 24 bytes of any kind.

@@ -1,19 +1,21 @@
-// What a call of `match_route` tells and leaves in its buffers, and what it should.
+// What a call of `match_route` tells and leaves in its buffers, and what it should. The firm's crate has the like for its own tree,
+// which this crate does not stand on.
 use rules::records::{LevelRecord, ParamRecord, RouteId};
 use rules::refusal::Refusal;
 use segments::static_segment::{StaticSegment, Text};
+use std::array::from_fn;
 use std::test::Fail;
 use trees::route::match_route;
 use trees::tree::MatchNestedRoutes;
 
 // What the buffers hold before a call.
-const OLD_LEVEL: LevelRecord = LevelRecord {
+pub const OLD_LEVEL: LevelRecord = LevelRecord {
     id: 77,
     start: 7,
     len: 70,
 };
 
-const OLD_PARAM: ParamRecord = ParamRecord {
+pub const OLD_PARAM: ParamRecord = ParamRecord {
     level: 7,
     entry: 70,
     start: 77,
@@ -77,48 +79,38 @@ pub fn nested(
     parts: &[(RouteId, usize, usize)],
     values: &[(usize, usize, usize, usize)],
 ) -> Outcome {
-    let mut levels = [LevelRecord::ZERO; 3];
-    for (record, part) in levels.iter_mut().zip(parts.iter()) {
-        let (id, start, len) = *part;
-        *record = LevelRecord { id, start, len };
-    }
-    let mut params = [ParamRecord::ZERO; 4];
-    for (record, value) in params.iter_mut().zip(values.iter()) {
-        let (level, entry, start, len) = *value;
-        *record = ParamRecord {
-            level,
-            entry,
-            start,
-            len,
-        };
-    }
     Outcome {
         told: Ok((parts.len(), values.len())),
-        levels,
-        params,
+        levels: from_fn(|i| match parts.get(i) {
+            Some(&(id, start, len)) => LevelRecord { id, start, len },
+            None => LevelRecord::ZERO,
+        }),
+        params: from_fn(|i| match values.get(i) {
+            Some(&(level, entry, start, len)) => ParamRecord {
+                level,
+                entry,
+                start,
+                len,
+            },
+            None => ParamRecord::ZERO,
+        }),
     }
 }
 
 // An answer of one route: its id, the length of its part, and the entry, start and length of each value.
-pub fn admitted(id: u16, len: usize, values: &[(usize, usize, usize)]) -> Outcome {
-    let mut params = [ParamRecord::ZERO; 4];
-    for (param, value) in params.iter_mut().zip(values.iter()) {
-        let (entry, start, len) = *value;
-        *param = ParamRecord {
-            level: 0,
-            entry,
-            start,
-            len,
-        };
-    }
+pub fn admitted(id: RouteId, len: usize, values: &[(usize, usize, usize)]) -> Outcome {
     Outcome {
         told: Ok((1, values.len())),
-        levels: [
-            LevelRecord { id, start: 0, len },
-            LevelRecord::ZERO,
-            LevelRecord::ZERO,
-        ],
-        params,
+        params: from_fn(|i| match values.get(i) {
+            Some(&(entry, start, len)) => ParamRecord {
+                level: 0,
+                entry,
+                start,
+                len,
+            },
+            None => ParamRecord::ZERO,
+        }),
+        ..nested(&[(id, 0, len)], &[])
     }
 }
 

@@ -1,21 +1,9 @@
 // A tree's own match, which refuses nothing and zeroes nothing.
 use crate::tests::firm::jobs;
+use crate::tests::outcome::{OLD_LEVEL, OLD_PARAM};
 use rules::records::{LevelRecord, ParamRecord};
 use std::test::Fail;
 use trees::tree::MatchNestedRoutes;
-
-const OLD_LEVEL: LevelRecord = LevelRecord {
-    id: 77,
-    start: 7,
-    len: 70,
-};
-
-const OLD_PARAM: ParamRecord = ParamRecord {
-    level: 7,
-    entry: 70,
-    start: 77,
-    len: 777,
-};
 
 // Only the records of the answer are written.
 #[test]

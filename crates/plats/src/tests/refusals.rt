@@ -43,14 +43,9 @@ fn routes_are_refused(rt: HostRuntime) -> Result<(), Fail> {
         number: 6,
         cause: Cause::Count,
     });
-    assert_eq!(rt;
-        NestedRoute::new(0, kinds![a, a, a, a, a, a, a]).err(),
-        Some(Refusal::BadId)
-    );
-    assert_eq!(rt;
-        NestedRoute::new(1, kinds![a, a, a, a, a, a, a]).err(),
-        Some(many)
-    );
+    let seven = kinds![a, a, a, a, a, a, a];
+    assert_eq!(rt; NestedRoute::new(0, seven).err(), Some(Refusal::BadId));
+    assert_eq!(rt; NestedRoute::new(1, seven).err(), Some(many));
     assert_eq!(rt;
         NestedRoute::new(1, kinds![a, a, a, (), a, a, a]).err(),
         None

@@ -1,20 +1,18 @@
-use Rattle.std.proofs.Common.{◌≡◌, ℕ, List, ◌++◌}
+use Rattle.std.proofs.Common.{◌≡◌, ℕ, Bool, false, ◌&&◌, List, ◌++◌, length, drop, Some, None, Option}
+use Rattle.std.proofs.Math.Seq.{drop-append_seam}
 use Rattle.std.proofs.lemmas.Slice.Eq.{strip_prefix_is}
-use Rattle.std.proofs.lemmas.Option.{MatchOption-at_some, MatchOption-at_none}
-use Rattle.rules.proofs.Words.{begins_at, begins_not}
-use Rattle.segments.proofs.static_segment.begins_with.Goals as goal
 use Rattle.std.proofs.lemmas.Bool.Decides.{Decides-eqb}
+use Rattle.std.specs.Option.{MatchOption}
+use Rattle.rules.specs.Paths.{rooted}
+use Rattle.rules.specs.Taking.{begins}
+use Rattle.rules.proofs.Words.{begins_front, begins_not}
+use Rattle.segments.proofs.static_segment.begins_with.Goals as goal
+use denote.Bor.{Bor}
 
-pub returns-in-Some : goal.returns-in-Some
-returns-in-Some c =
-    let word = c.args.word.now in
-    let rest = c.args.rest.now in
-    let h = MatchOption-at_some ((t : List ℕ) → rest ≡ word ++ t → ⊥) (λ x. rest ≡ word ++ x.now) c.in-Some.after c.in-Some.is (strip_prefix_is Decides-eqb rest word c.strip_prefix.result c.strip_prefix.ensures.cases) in
-    rw (begins_at word rest c.in-Some.after.now h, ← c.in-Some.ensures.cases.1) c.is_rooted.ensures
+-- what is told of the bytes behind a word, where there are some
+is_word : (w p : List ℕ) (b : Bool) (r : Option (Bor (List ℕ))) → MatchOption r ((t : List ℕ) → p ≡ w ++ t → ⊥) (λ x. p ≡ w ++ x.now) → MatchOption r (b ≡ false) (λ x. b ≡ rooted x.now) → b ≡ (begins w p && rooted (drop (length w) p))
+is_word w p b None n e = rw (begins_not w p n) e
+is_word w p b (Some x) s e = rw (s, begins_front w x.now, drop-append_seam w x.now) e
 
-pub returns-in-None : goal.returns-in-None
-returns-in-None c =
-    let word = c.args.word.now in
-    let rest = c.args.rest.now in
-    let h = MatchOption-at_none ((t : List ℕ) → rest ≡ word ++ t → ⊥) (λ x. rest ≡ word ++ x.now) c.in-None.is (strip_prefix_is Decides-eqb rest word c.strip_prefix.result c.strip_prefix.ensures.cases) in
-    rw (begins_not word rest h)
+pub returns : goal.returns
+returns c = is_word c.args.word.now c.args.rest.now _ c.strip_prefix.result (strip_prefix_is Decides-eqb c.args.rest.now c.args.word.now c.strip_prefix.result c.strip_prefix.ensures.cases) c.is_some_and.ensures

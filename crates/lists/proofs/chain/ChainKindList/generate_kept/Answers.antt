@@ -1,11 +1,9 @@
-use Rattle.std.proofs.Common.{ap, ◌∙◌}
-use Rattle.rules.specs.Keeping.{still_kept}
-use Rattle.rules.proofs.Generated.{wrote_kept}
+use Rattle.std.proofs.Common.{arith}
+use Rattle.rules.proofs.Takes.{kept_few, entries_length}
 use Rattle.lists.proofs.chain.ChainKindList.generate_kept.Goals as goal
 
-pub returns : goal.returns
-returns g c =
-    let self = c.args.self.now in
-    let left = c.in-Some.ensures ∙ ap (λ v. still_kept v c.args.keep) c.optional.ensures in
-    let w = wrote_kept (g.K.PossibleRouteMatch.meaning self.head) (g.R.KindList.entries self.tail) c.args.keep c.in-Some.left c.args.at _ c.args.out.now _ left c.generate_path-own.ensures.count c.generate_path-own.ensures.entries _ _ _ _ c.if-own-eq0.false c.requires c.kept_record.ensures (record { end = c.generate_kept-2.ensures.end; written = c.generate_kept-2.ensures.written }) in
-    record { end = w.end; written = w.written }
+pub overflow_add-result : goal.overflow_add-result
+overflow_add-result g c =
+    let oe = g.K.PossibleRouteMatch.meaning c.args.self.now.head in
+    let es = g.R.KindList.entries c.args.self.now.tail in
+    omega (arith, c.requires, c.put_kept-own.ensures.count, c.generate_kept-2.ensures.count, kept_few c.in-Some.left es, entries_length oe es, c.ranges, c.generate_kept-2.type_inv)

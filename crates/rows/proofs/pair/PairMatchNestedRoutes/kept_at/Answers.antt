@@ -1,28 +1,28 @@
-use native.Mathlib.Omega.{arith}
+use Rattle.std.proofs.Common.{arith}
 use Rattle.rules.proofs.NestLines.{kept_as}
-use Rattle.rules.proofs.PairLines.{first_kept, second_kept, first_kept_there, second_kept_there}
+use Rattle.rules.proofs.PairLines.{first_kept_length, first_kept, second_kept_length, second_kept}
 use Rattle.rows.proofs.pair.PairMatchNestedRoutes.kept_at.Goals as goal
 
-pub kept_at-requires : goal.kept_at-requires
-kept_at-requires g c =
+pub kept_at-requires-clause-there : goal.kept_at-requires-clause-there
+kept_at-requires-clause-there g c =
     let f = g.A.MatchNestedRoutes.routes c.args.self.now.first in
     let h = g.B.MatchNestedRoutes.routes c.args.self.now.second in
-    record { there = first_kept_there f h c.args.line _ c.line_count-count.ensures c.if-line-count.true c.args.n c.requires.there; wide = omega (arith, c.requires.wide) }
+    omega (arith, c.requires.there, first_kept_length f h c.args.line c.in-None.ensures)
 
-pub kept_at-requires-else-line-count : goal.kept_at-requires-else-line-count
-kept_at-requires-else-line-count g c =
+pub kept_at-requires-in-Some-clause-there : goal.kept_at-requires-in-Some-clause-there
+kept_at-requires-in-Some-clause-there g c =
     let f = g.A.MatchNestedRoutes.routes c.args.self.now.first in
     let h = g.B.MatchNestedRoutes.routes c.args.self.now.second in
-    record { there = second_kept_there f h c.args.line _ (omega (arith, c.ranges.line.fits)) c.line_count-count.ensures c.if-line-count.false c.args.n c.requires.there; wide = omega (arith, c.requires.wide) }
+    omega (arith, c.requires.there, second_kept_length f h c.args.line c.in-Some.left c.in-Some.ensures)
 
-pub returns-then-line-count : goal.returns-then-line-count
-returns-then-line-count g c =
+pub returns-in-None : goal.returns-in-None
+returns-in-None g c =
     let f = g.A.MatchNestedRoutes.routes c.args.self.now.first in
     let h = g.B.MatchNestedRoutes.routes c.args.self.now.second in
-    kept_as (first_kept f h c.args.line _ c.line_count-count.ensures c.if-line-count.true c.args.n) c.kept_at.ensures
+    kept_as (first_kept f h c.args.line c.in-None.ensures c.args.n) c.kept_at.ensures
 
-pub returns-else-line-count : goal.returns-else-line-count
-returns-else-line-count g c =
+pub returns-in-Some : goal.returns-in-Some
+returns-in-Some g c =
     let f = g.A.MatchNestedRoutes.routes c.args.self.now.first in
     let h = g.B.MatchNestedRoutes.routes c.args.self.now.second in
-    kept_as (second_kept f h c.args.line _ (omega (arith, c.ranges.line.fits)) c.line_count-count.ensures c.if-line-count.false c.args.n) c.kept_at-else-line-count.ensures
+    kept_as (second_kept f h c.args.line c.in-Some.left c.in-Some.ensures c.args.n) c.kept_at-in-Some.ensures

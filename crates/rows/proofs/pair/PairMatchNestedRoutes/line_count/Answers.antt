@@ -1,6 +1,4 @@
-use mathlib.Core.Path.{sym, ap, ◌∙◌}
-use Prim.Native.Nat.{◌+◌, ◌-◌, ◌^◌, min}
-use lib.ListN.{length, length-append}
+use Rattle.std.proofs.Common.{sym, ap, ◌∙◌, ◌+◌, ◌-◌, ◌^◌, min, length, length-append}
 use Rattle.rules.specs.Lines.{lines}
 use Rattle.rules.specs.Numbers.{capped}
 use Rattle.rules.proofs.Capped.{capped_add}

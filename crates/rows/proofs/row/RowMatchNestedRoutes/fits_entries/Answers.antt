@@ -1,27 +1,13 @@
-use mathlib.Core.Path.{refl, sym, ap, ◌∙◌}
-use mathlib.Core.Bool.{◌&&◌}
-use Prim.Native.Nat.{◌+◌}
-use lib.Dec.{leb}
-use lib.ListN.{drop}
-use Rattle.rules.specs.Bounds.{Bounds, largest}
-use Rattle.rules.proofs.Bounded.{row_within_more, row_within_all}
+use Rattle.std.proofs.Common.{leb, refl, ◌∙◌, rules}
+use borrow.Author.Tests.{tests}
+use Rattle.std.proofs.lemmas.Iterator.{YieldsList-from_slice}
+use Rattle.std.proofs.lemmas.Iterator.Search.{all_from_yields_List}
+use Rattle.rules.specs.Bounds.{Bounds}
+use Rattle.rules.proofs.Bounded.{row_fits}
 use Rattle.rows.proofs.row.RowMatchNestedRoutes.fits_entries.Goals as goal
-
-pub loop-item-preserved : goal.loop-item-preserved
-loop-item-preserved g c =
-    let b = g.T.MatchNestedRoutes.bounds in
-    let xs = c.args.self.now.items.now in
-    let i = c.loop-item.item-index in
-    c.loop-item.invariant ∙ row_within_more b (λ (x : Bounds). x.entries) (λ x y. refl) refl c.args.entries xs i c.item-item.result c.loop-item-test.true c.item-item.is ∙ ap (λ v. v && leb (largest b (drop (i + 1) xs)).entries c.args.entries) (sym c.if-not-fits_entries.ensures)
-
-pub returns-then-not-fits_entries : goal.returns-then-not-fits_entries
-returns-then-not-fits_entries g c =
-    let b = g.T.MatchNestedRoutes.bounds in
-    let xs = c.args.self.now.items.now in
-    let i = c.loop-item.item-index in
-    sym (c.loop-item.invariant ∙ row_within_more b (λ (x : Bounds). x.entries) (λ x y. refl) refl c.args.entries xs i c.item-item.result c.loop-item-test.true c.item-item.is ∙ ap (λ v. v && leb (largest b (drop (i + 1) xs)).entries c.args.entries) (sym c.if-not-fits_entries.ensures))
 
 pub returns : goal.returns
 returns g c =
     let b = g.T.MatchNestedRoutes.bounds in
-    sym (c.loop-item.invariant ∙ row_within_all b (λ (x : Bounds). x.entries) (λ x y. refl) refl c.args.entries c.args.self.now.items.now c.loop-item.item-index c.loop-item-test.false)
+    all_from_yields_List (λ x. leb (b x).entries c.args.entries) _ _ c.all.result c.all.ensures.ran (YieldsList-from_slice c.args.self.now.items.now cc) (λ x v q k. search (rules, tests))
+    ∙ row_fits b (λ (x : Bounds). x.entries) (λ x y. refl) refl c.args.entries c.args.self.now.items.now

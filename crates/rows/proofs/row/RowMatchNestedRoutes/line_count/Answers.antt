@@ -1,4 +1,4 @@
-use native.Mathlib.Omega.{arith}
+use Rattle.std.proofs.Common.{arith}
 use Rattle.rules.proofs.RowLines.{row_count_more, row_count_all}
 use Rattle.rows.proofs.row.RowMatchNestedRoutes.line_count.Goals as goal
 

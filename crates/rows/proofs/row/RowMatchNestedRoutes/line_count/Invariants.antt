@@ -1,6 +1,4 @@
-use mathlib.Core.Path.{◌≡◌}
-use Prim.Native.Nat.{◌+◌, ◌<◌}
-use lib.ListN.{length, drop}
+use Rattle.std.proofs.Common.{◌≡◌, ◌+◌, ◌<◌, length, drop}
 use Rattle.rules.specs.Forests.{forest_of}
 use Rattle.rules.specs.Lines.{lines}
 use Rattle.rules.specs.Numbers.{capped}

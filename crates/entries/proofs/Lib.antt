@@ -1,0 +1,2 @@
+pub mod SlashFree
+pub mod FirstFault
