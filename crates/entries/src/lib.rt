@@ -1,4 +1,5 @@
-//! Entries as they are held, handed over and given out: their records, the check of their texts and names, and lawful paths.
+//! Entries as they are held, handed over and given out: their records, the check of their texts and names, lists that are handed over,
+//! lawful paths and what is left of one.
 #![tactic(auto)]
 
 pub mod check;

@@ -19,15 +19,24 @@ pub fn record_of(kind: SegmentKind, text: &[u8]) -> PathSegment
     }
 }
 
-// Puts one record at the front of a buffer, if that has room, and answers how many there are: 1, as a kind answers it.
+// Puts one record behind the `at` records of a buffer, if that has room, and answers how many there are: 1, as a kind answers it.
+// The place stands beside the buffer for a kind's sake, which takes any.
+pub fn append_record(path: &mut [PathSegment], at: usize, segment: PathSegment) -> usize
+    ensures count { result ≡ 1 }
+    ensures entries { path.new ≡ slice_set path.old at segment }
+{
+    if at < path.len() {
+        path[at] = segment;
+    }
+    1
+}
+
+// The same at the front of a buffer.
 pub fn put_record(path: &mut [PathSegment], segment: PathSegment) -> usize
     ensures count { result ≡ 1 }
     ensures entries { path.new ≡ slice_set path.old 0 segment }
 {
-    if let [first, ..] = path {
-        *first = segment;
-    }
-    1
+    append_record(path, 0, segment)
 }
 
 // Whether entries of a kind have a value.

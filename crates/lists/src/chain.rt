@@ -136,7 +136,7 @@ impl<K: PossibleRouteMatch, R: KindList> KindList for Chain<K, R> {
     }
 
     fn generate(&self, out: &mut [PathSegment]) -> usize {
-        let own = self.head.generate_path(out);
+        let own = self.head.generate_path(out, 0);
         own + self.tail.generate(&mut out[own..])
     }
 

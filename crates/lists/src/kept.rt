@@ -48,7 +48,7 @@ pub(crate) fn put_kept<K: PossibleRouteMatch>(kind: &K, out: &mut [PathSegment])
     ensures count { result ≡ means_count (K.PossibleRouteMatch.meaning kind.now) }
     ensures entries { out.new ≡ put_front out.old (meaning_kept (K.PossibleRouteMatch.meaning kind.now)) }
 {
-    let own = kind.generate_path(out);
+    let own = kind.generate_path(out, 0);
     if own > 0 {
         out[0] = kept_record(out[0]);
     }

@@ -3,7 +3,7 @@ ghost use Rattle.rules.specs.Entries.{static};
 ghost use Rattle.plats.specs.Words.{plat_word, plat_lawful};
 
 use entries::path::is_lawful;
-use entries::record::{put_record, record_of};
+use entries::record::{append_record, record_of};
 use rules::segment::{PathSegment, SegmentKind};
 use segments::kind::PossibleRouteMatch;
 use segments::static_segment::take_word;
@@ -38,7 +38,11 @@ impl PossibleRouteMatch for PlatSegment {
         }
     }
 
-    fn generate_path(&self, path: &mut [PathSegment]) -> usize {
-        put_record(path, record_of(SegmentKind::Static, plat_word(self.replat)))
+    fn generate_path(&self, path: &mut [PathSegment], at: usize) -> usize {
+        append_record(
+            path,
+            at,
+            record_of(SegmentKind::Static, plat_word(self.replat)),
+        )
     }
 }

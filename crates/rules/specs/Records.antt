@@ -36,10 +36,14 @@ abbrev pub records_of : List Entry → List PathSegment
 records_of [] = []
 records_of (e ∷ es) = record_of e ∷ records_of es
 
--- a buffer after a kind has put its entry, if it has one, at the front; an empty buffer takes nothing
+-- a buffer after a kind has appended its entry, if it has one, at a place; past its end a buffer takes nothing
+abbrev pub appended : List PathSegment → ℕ → Option Entry → List PathSegment
+appended out at None = out
+appended out at (Some e) = slice_set out at (record_of e)
+
+-- the same at the front
 abbrev pub put_front : List PathSegment → Option Entry → List PathSegment
-put_front out None = out
-put_front out (Some e) = slice_set out 0 (record_of e)
+put_front out o = appended out 0 o
 
 -- some records from the start of a buffer of n, and zero ones behind them
 abbrev pub padded : {A : Type 0} → List A → A → ℕ → List A

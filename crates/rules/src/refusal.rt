@@ -162,8 +162,9 @@ impl fmt::Display for Refusal {
 
     fn fmt<W: fmt::Write>(&self, f: &mut fmt::Formatter<W>) -> fmt::Result {
         write!(f, "{} {}", self.number(), self.name())?;
-        if let Refusal::BadEntry(fault) = self {
-            write!(f, " ({fault})")?;
+        // the bracket and the fault begin in one piece: a writer that has no room for it is left with the name alone
+        if let Refusal::BadEntry(EntryFault { number, cause }) = self {
+            write!(f, " (entry {number}: {cause})")?;
         }
         Ok(())
     }

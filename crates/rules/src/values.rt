@@ -29,8 +29,8 @@ impl TextPlace {
     pub fn bytes_in(self, text: &[u8]) -> &[u8]
         ensures { result.now ≡ bytes_in text.now self }
     {
-        let rest = text.get(self.start..).unwrap_or(b"");
-        rest.get(..self.len).unwrap_or(rest)
+        let rest = &text[self.start.min(text.len())..];
+        &rest[..self.len.min(rest.len())]
     }
 }
 

@@ -1,7 +1,7 @@
 ghost use Rattle.std.specs.Prelude.{◌≡◌, true, Option};
 ghost use Rattle.rules.specs.Entries.{Entry, lawful_meaning, means_optional, means_count, means_value, means_bare};
 ghost use Rattle.rules.specs.Taking.{testing};
-ghost use Rattle.rules.specs.Records.{put_front};
+ghost use Rattle.rules.specs.Records.{appended};
 
 use entries::record::{kind_has_value, record_is_bare};
 use rules::segment::PathSegment;
@@ -23,16 +23,17 @@ pub trait PossibleRouteMatch {
     fn test(&self, path: &[u8]) -> Option<(usize, usize, usize)>
         ensures { result ≡ testing (meaning self.now) path.now };
 
-    // Puts its entry at the front of `path`, if it has one and the buffer has room, and answers how many it has.
-    fn generate_path(&self, path: &mut [PathSegment]) -> usize
+    // Appends its entry to the `at` entries of `path`, if it has one and the buffer has room, and answers how many it has.
+    // The place stands beside the buffer, since it may be any, past the end too: without it a caller would have to cut the buffer.
+    fn generate_path(&self, path: &mut [PathSegment], at: usize) -> usize
         ensures count { result ≡ means_count (meaning self.now) }
-        ensures entries { path.new ≡ put_front path.old (meaning self.now) };
+        ensures entries { path.new ≡ appended path.old at (meaning self.now) };
 
     // How many entries it has, 0 or 1.
     fn entry_count(&self) -> usize
         ensures { result ≡ means_count (meaning self.now) }
     {
-        self.generate_path(&mut [])
+        self.generate_path(&mut [], 0)
     }
 
     // Whether its entry has a value.
@@ -40,7 +41,7 @@ pub trait PossibleRouteMatch {
         ensures { result ≡ means_value (meaning self.now) }
     {
         let mut entry = [PathSegment::ZERO];
-        let _ = self.generate_path(&mut entry);
+        let _ = self.generate_path(&mut entry, 0);
         kind_has_value(entry[0].kind)
     }
 
@@ -49,7 +50,7 @@ pub trait PossibleRouteMatch {
         ensures { result ≡ means_bare (meaning self.now) }
     {
         let mut entry = [PathSegment::ZERO];
-        let _ = self.generate_path(&mut entry);
+        let _ = self.generate_path(&mut entry, 0);
         record_is_bare(entry[0])
     }
 }

@@ -7,7 +7,7 @@ ghost use Rattle.rules.proofs.RecordOf.{lawful_by_kind};
 use crate::fixed_kind::{FixedKind, NamedKind};
 use crate::kind::PossibleRouteMatch;
 use entries::path::is_lawful;
-use entries::record::put_record;
+use entries::record::append_record;
 use entries::segment::Segment;
 use rules::refusal::Refusal;
 use rules::segment::PathSegment;
@@ -68,8 +68,8 @@ impl<K: NamedKind> PossibleRouteMatch for OfKind<K> {
         if is_lawful(path) { K::take(path) } else { None }
     }
 
-    fn generate_path(&self, path: &mut [PathSegment]) -> usize {
-        put_record(path, self.segment.record())
+    fn generate_path(&self, path: &mut [PathSegment], at: usize) -> usize {
+        append_record(path, at, self.segment.record())
     }
 
     fn entry_count(&self) -> usize {

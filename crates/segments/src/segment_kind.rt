@@ -5,7 +5,7 @@ use crate::kind::PossibleRouteMatch;
 use crate::param_segments::{take_optional, take_param, take_splat};
 use crate::static_segment::take_static;
 use entries::path::is_lawful;
-use entries::record::{kind_has_value, put_record};
+use entries::record::{append_record, kind_has_value};
 use entries::segment::Segment;
 use rules::segment::{PathSegment, SegmentKind};
 
@@ -33,8 +33,8 @@ impl PossibleRouteMatch for Segment {
         }
     }
 
-    fn generate_path(&self, path: &mut [PathSegment]) -> usize {
-        put_record(path, self.record())
+    fn generate_path(&self, path: &mut [PathSegment], at: usize) -> usize {
+        append_record(path, at, self.record())
     }
 
     fn entry_count(&self) -> usize {

@@ -11,7 +11,7 @@ use crate::fixed_kind::FixedKind;
 use crate::kind::PossibleRouteMatch;
 use crate::of_kind::OfKind;
 use entries::path::{is_lawful, is_rooted};
-use entries::record::{put_record, record_of};
+use entries::record::{append_record, record_of};
 use rules::segment::{PathSegment, SegmentKind};
 
 // A text without its own leading slash.
@@ -101,8 +101,12 @@ impl<T: AsPath> PossibleRouteMatch for StaticSegment<T> {
         }
     }
 
-    fn generate_path(&self, path: &mut [PathSegment]) -> usize {
-        put_record(path, record_of(SegmentKind::Static, self.text.as_path()))
+    fn generate_path(&self, path: &mut [PathSegment], at: usize) -> usize {
+        append_record(
+            path,
+            at,
+            record_of(SegmentKind::Static, self.text.as_path()),
+        )
     }
 
     fn entry_count(&self) -> usize {

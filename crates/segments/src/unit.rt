@@ -17,7 +17,7 @@ impl PossibleRouteMatch for () {
         Some((0, 0, 0))
     }
 
-    fn generate_path(&self, _path: &mut [PathSegment]) -> usize {
+    fn generate_path(&self, _path: &mut [PathSegment], _at: usize) -> usize {
         0
     }
 

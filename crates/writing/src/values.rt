@@ -75,6 +75,8 @@ impl<'a> ValueTable<'a> {
     }
 
     // The value of the choice of a number for an entry; an entry without a value has none.
+    // Not inlined: it is called at each step of a path, whose frame would hold the search through the table while the rest is written.
+    #[inline(never)]
     #[tactic(auto, using(crate::proofs::Steps::valued, crate::proofs::Tables::nth_named))]
     pub(crate) fn chosen_value(self, one: Entry, n: usize) -> &'a [u8]
         ensures { result.now ≡ value_of self.entry.text.now self.entry.records.now (slice_index_or (choices_for self.entry.text.now self.entry.records.now (entry_of one.entry.kind one.entry.text.now)) n None) }

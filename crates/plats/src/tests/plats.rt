@@ -69,9 +69,9 @@ fn plat_is_given_out(rt: HostRuntime) {
         text: *b"replat\0\0\0\0\0\0\0\0\0\0\0\0\0\0\0\0\0\0",
     };
     let mut path = [PathSegment::ZERO; 2];
-    assert_eq!(rt; REPLAT.generate_path(&mut path[2..]), 1);
+    assert_eq!(rt; REPLAT.generate_path(&mut path, 2), 1);
     assert_eq!(rt; path, [PathSegment::ZERO; 2]);
-    assert_eq!(rt; REPLAT.generate_path(&mut path[1..]), 1);
+    assert_eq!(rt; REPLAT.generate_path(&mut path, 1), 1);
     assert_eq!(rt; path, [PathSegment::ZERO, record]);
     assert_eq!(rt; PLAT.entry_count(), 1);
     assert!(rt; !PLAT.optional() && !PLAT.has_value() && !PLAT.is_bare());
